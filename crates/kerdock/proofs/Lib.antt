@@ -1,0 +1,13 @@
+pub mod Tests
+pub mod Iterate
+pub mod Check
+pub mod Computed
+pub mod SoundRows
+pub mod Elements
+pub mod Published
+pub mod Sums
+pub mod Digits
+pub mod Words
+pub mod RowFacts
+pub mod Fills
+pub mod Places

@@ -1,0 +1,5 @@
+// The Z4 Kerdock code: code books, encoding, reading back, and sums of messages.
+pub mod refusals;
+mod rows;
+pub mod table;
+pub mod books;
