@@ -11,3 +11,5 @@ pub mod Words
 pub mod RowFacts
 pub mod Fills
 pub mod Places
+pub mod Symbols
+pub mod Laws

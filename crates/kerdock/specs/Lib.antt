@@ -5,3 +5,4 @@ pub mod Sound
 pub mod Books
 pub mod Refusals
 pub mod Words
+pub mod Calls

@@ -3,3 +3,4 @@ pub mod refusals;
 mod rows;
 pub mod table;
 pub mod books;
+pub mod coding;
