@@ -9,14 +9,21 @@ use lib.ListN.{getD, length}
 use lib.Seq.{ext-getD}
 use Rattle.std.specs.declared.result.Result.{Result}
 use Rattle.std.specs.declared.result.Result.the-variants.{Ok, Err}
-use Rattle.kerdock.specs.Code.{Row, size, messages, symbol}
+use Rattle.kerdock.specs.Code.{Row, size, messages, symbol, sumOf}
 use Rattle.kerdock.specs.Table.{rowOf, known}
 use Rattle.kerdock.specs.Sound.{Sound}
-use Rattle.kerdock.specs.Calls.{Spells, encodes, Written, FirstAbove, Refused, ReadBack, ComesBack, Alone, WrittenAgain}
+use Rattle.kerdock.specs.Calls.{Spells, encodes, Written, FirstAbove, Refused, ReadBack, ComesBack, WrittenAgain, adds}
 use Rattle.kerdock.specs.declared.refusals.Refusal.{Refusal}
 use Rattle.kerdock.specs.declared.refusals.Refusal.the-variants.{Degree, Message, Memory, Symbol, NoWord}
 use Rattle.kerdock.proofs.RowFacts.{known-sound}
 use Rattle.kerdock.proofs.Words.{words}
+
+-- three tests that all pass lead to the answer behind them
+all-pass : {A : Type 0} (ok no1 no2 no3 : A) (x y z : Bool) → T x → T y → T z → cond x (cond y (cond z ok no3) no2) no1 ≡ ok
+all-pass ok no1 no2 no3 false y z h i j = absurd h
+all-pass ok no1 no2 no3 true false z h i j = absurd i
+all-pass ok no1 no2 no3 true true false h i j = absurd j
+all-pass ok no1 no2 no3 true true true h i j = refl
 
 module _ (degree : ℕ) (listed : T (known degree)) where
   abbrev row : Row
@@ -55,13 +62,14 @@ module _ (degree : ℕ) (listed : T (known degree)) where
   -- in range and with memory of N symbols, encoding is not refused
   pub encodes-ok : (m n : ℕ) → m < messages row → n ≡ size row → encodes degree m n ≡ Ok tt
   encodes-ok m n a e =
-      pick (known degree) (ltb m (messages row)) (eqb n (size row)) listed (lt→ltb m (messages row) a) (subst (λ (x : ℕ). T (eqb n x)) e (eqb-refl n))
-    where
-      pick : (x y z : Bool) → T x → T y → T z → _≡_ {A = Result (Unit {0}) Refusal} (cond x (cond y (cond z (Ok tt) (Err Memory)) (Err Message)) (Err Degree)) (Ok tt)
-      pick false y z h i j = absurd h
-      pick true false z h i j = absurd i
-      pick true true false h i j = absurd j
-      pick true true true h i j = refl
+      all-pass (Ok tt) (Err Degree) (Err Message) (Err Memory) (known degree) (ltb m (messages row)) (eqb n (size row))
+      listed (lt→ltb m (messages row) a) (subst (λ (x : ℕ). T (eqb n x)) e (eqb-refl n))
+
+  -- two messages in range are added
+  pub adds-ok : (m v : ℕ) → m < messages row → v < messages row → adds degree m v ≡ Ok (sumOf row m v)
+  adds-ok m v a b =
+      all-pass (Ok (sumOf row m v)) (Err Degree) (Err Message) (Err Message) (known degree) (ltb m (messages row)) (ltb v (messages row))
+      listed (lt→ltb m (messages row) a) (lt→ltb v (messages row) b)
 
   pub written-again : (list : List ℕ) (m : ℕ) → m < messages row → Spells row m list → WrittenAgain degree list (Ok m)
   written-again list m a x before after r long e w =

@@ -13,3 +13,5 @@ pub mod Fills
 pub mod Places
 pub mod Symbols
 pub mod Laws
+pub mod Weights
+pub mod Candidates

@@ -9,11 +9,10 @@ use Rattle.kerdock.specs.Code.{Row, t, sumTo, digit, symbol}
 pub digit-first : (m : ℕ) → m % 4 ≡ digit m 0
 digit-first m = ap (λ (x : ℕ). x % 4) (sym (div-one m))
 
--- the number left once k + 1 digits are gone, less one more
-pub digits-left : (m k : ℕ) → m / 4 ^ suc k / 4 ≡ m / 4 ^ suc (k + 1)
-digits-left m k =
-    div-div-eq-div-mul m (4 ^ suc k) 4 ∙ ap (λ (x : ℕ). m / x) (sym (pow-suc 4 (suc k)))
-    ∙ ap (λ (x : ℕ). m / 4 ^ suc x) (sym (add-one k))
+-- the number left once k digits are gone, less one more
+pub digits-gone : (m k : ℕ) → m / 4 ^ k / 4 ≡ m / 4 ^ (k + 1)
+digits-gone m k =
+    div-div-eq-div-mul m (4 ^ k) 4 ∙ ap (λ (x : ℕ). m / x) (sym (pow-suc 4 k) ∙ ap (λ (x : ℕ). 4 ^ x) (sym (add-one k)))
 
 pub symbol-first : (row : Row) (m i : ℕ) → i ≡ 0 → m % 4 ≡ symbol row m i
 unfolding symbol

@@ -11,7 +11,7 @@ use Rattle.kerdock.proofs.Sums.{sum-same, sum-mod, sum-plus, sum-one, mod-time
 use Rattle.kerdock.proofs.Digits.{made-below, digit-made, by-digits, bit-here, bit-elsewhere}
 
 -- the sum over k of a k times the trace of j + k
-abbrev mixed : Row → ℕ → (ℕ → ℕ) → ℕ
+abbrev pub mixed : Row → ℕ → (ℕ → ℕ) → ℕ
 mixed row j a = sumTo (λ k. a k * t row (j + k)) (row .degree)
 
 -- a symbol is a number modulo 4
@@ -21,7 +21,7 @@ symbol-small row m zero = mod-lt _ (omega arith)
 symbol-small row m (suc j) = mod-lt _ (omega arith)
 
 -- a product by the lower bit of its second factor
-times-bit : (a x : ℕ) → a * x ≡ a * (x % 2) + 2 * (a * (x / 2))
+pub times-bit : (a x : ℕ) → a * x ≡ a * (x % 2) + 2 * (a * (x / 2))
 times-bit a x =
     ap (λ (n : ℕ). a * n) (sym (mod-add-div x 2)) ∙ mul-add a (x % 2) (2 * (x / 2)) ∙ ap (λ (n : ℕ). a * (x % 2) + n) (mul-left-comm a 2 (x / 2))
 
@@ -64,7 +64,7 @@ four-pow (suc n) =
     ∙ ap₂ _*_ (sym (pow-succ' 2 n)) (sym (pow-succ' 2 n))
 
 -- a message has d + 1 digits
-messages-are : (row : Row) → messages row ≡ 4 ^ suc (row .degree)
+pub messages-are : (row : Row) → messages row ≡ 4 ^ suc (row .degree)
 messages-are row =
     mul-assoc 4 (size row) (size row) ∙ ap (λ (x : ℕ). 4 * x) (sym (four-pow (row .degree))) ∙ sym (pow-succ' 4 (row .degree))
 
@@ -78,7 +78,7 @@ same-digits : (row : Row) (m n : ℕ) → m < messages row → n < messages row 
 same-digits row m n p q h = by-digits 4 (omega arith) (suc (row .degree)) m n (rw (messages-are row) at p) (rw (messages-are row) at q) h
 
 -- the bits of a place
-place-bit : (row : Row) (j l : ℕ) → l < row .degree → place row (suc j) / 2 ^ l % 2 ≡ t row (j + l) % 2
+pub place-bit : (row : Row) (j l : ℕ) → l < row .degree → place row (suc j) / 2 ^ l % 2 ≡ t row (j + l) % 2
 unfolding place
 place-bit row j l h = digit-made 2 (omega arith) (λ k. t row (j + k) % 2) (row .degree) l h (λ k b. mod-lt _ (omega arith))
 

@@ -4,3 +4,5 @@ mod rows;
 pub mod table;
 pub mod books;
 pub mod coding;
+pub mod reading;
+pub mod messages;

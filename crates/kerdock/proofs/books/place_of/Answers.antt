@@ -6,7 +6,7 @@ use Rattle.kerdock.specs.Code.{t, sumTo, place}
 use Rattle.kerdock.specs.Table.{rowOf}
 use Rattle.kerdock.proofs.Sums.{sum-step}
 use Rattle.kerdock.proofs.RowFacts.{row-facts}
-use Rattle.kerdock.proofs.Places.{Weighed, weighed}
+use Rattle.kerdock.proofs.Weights.{Weighed, weighed}
 use Rattle.kerdock.proofs.books.place_of.Needs as need
 
 pub add-j : need.add-j
@@ -18,10 +18,10 @@ trace-at-requires c κs =
     record { row = c .pre .row; filled = c .pre .filled; within = omega (arith, c .pre .within) }
 
 -- one more bit
-bit-more : (c : need.After-trace-at) → Weighed (c .loop-k .weight) (c .loop-k .place) (c .trace-at .result % 2) (c .loop-k .k)
+bit-more : (c : need.After-trace-at) → Weighed 2 6 (c .loop-k .weight) (c .loop-k .place) (c .trace-at .result % 2) (c .loop-k .k)
 bit-more c =
     let f = row-facts (c .args .row .now) (c .pre .row) in
-    weighed _ _ _ _ (c .loop-k .inv .0) (c .loop-k .inv .2) (mod-lt _ (omega arith)) (omega arith)
+    weighed 2 6 _ _ _ _ (c .loop-k .inv .0) (c .loop-k .inv .2) (mod-lt _ (omega arith)) (omega arith) (omega arith)
 
 pub mul-place : need.mul-place
 mul-place c = let m = bit-more c in omega arith
@@ -39,7 +39,7 @@ loop-k-again c =
     let s : c .loop-k .place + c .loop-k .weight * (c .trace-at .result % 2) ≡ sumTo (λ k. 2 ^ k * (t row (c .args .j + k) % 2)) (c .loop-k .k + 1) =
     ap₂ (λ (w x : ℕ). c .loop-k .place + w * (x % 2)) (c .loop-k .inv .0) (c .trace-at .ensures)
     ∙ sum-step (λ k. 2 ^ k * (t row (c .args .j + k) % 2)) (c .loop-k .place) (c .loop-k .k) (c .loop-k .inv .1) in
-    (m .doubled, s, m .room)
+    (m .next, s, m .room)
 
 pub returns : need.returns
 unfolding place

@@ -1,12 +1,13 @@
 use mathlib.Core.Path.{_≡_, refl, _∙_, ap, ap₂}
 use Prim.Native.Nat.{ℕ, suc, _+_, _-_, _*_, _/_, _%_, _^_, _<_, _≤_}
 use native.Mathlib.Nat.{mod-lt}
+use native.Mathlib.Numerals.{add-one}
 use native.Mathlib.Omega.{arith}
 use Rattle.kerdock.specs.Code.{t, sumTo, digit}
 use Rattle.kerdock.specs.Table.{rowOf}
 use Rattle.kerdock.proofs.Sums.{sum-step}
 use Rattle.kerdock.proofs.RowFacts.{row-facts, small-product}
-use Rattle.kerdock.proofs.Symbols.{digit-first, digits-left, symbol-first, symbol-after}
+use Rattle.kerdock.proofs.Symbols.{digit-first, digits-gone, symbol-first, symbol-after}
 use Rattle.kerdock.proofs.coding.symbol_at.Needs as need
 
 pub returns-then-index-eq0 : need.returns-then-index-eq0
@@ -47,10 +48,10 @@ loop-k-again c =
     let s = small-term c in
     let term : ℕ → ℕ = λ l. digit m (suc l) * t row (c .args .index - 1 + l) in
     let e : c .loop-k .rest % 4 * c .trace-at .result ≡ term k =
-    ap₂ (λ (x y : ℕ). x % 4 * y) (c .loop-k .inv .0) (c .trace-at .ensures) in
+    ap₂ (λ (x y : ℕ). x % 4 * y) (c .loop-k .inv .0 ∙ ap (λ (x : ℕ). m / 4 ^ x) (add-one k)) (c .trace-at .ensures) in
     let more = sum-step term (sumTo term k) k refl in
     let i = c .loop-k .inv .1 in
-    (ap (λ (x : ℕ). x / 4) (c .loop-k .inv .0) ∙ digits-left m k, omega arith, omega arith)
+    (ap (λ (x : ℕ). x / 4) (c .loop-k .inv .0) ∙ digits-gone m (k + 1), omega arith, omega arith)
 
 pub returns : need.returns
 returns c =
