@@ -6,3 +6,4 @@ pub mod Books
 pub mod Refusals
 pub mod Words
 pub mod Calls
+pub mod Examples

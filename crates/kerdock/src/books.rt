@@ -9,8 +9,8 @@ ghost use Rattle.kerdock.specs.Code.{t, place, period, size, sumTo};
 ghost use Rattle.kerdock.specs.Table.{rowOf, known};
 ghost use Rattle.kerdock.specs.Books.{RowIs, Lawful};
 use crate::refusals::Refusal;
-use crate::rows::row_of;
 use crate::rows::TableRow;
+use crate::rows::row_of;
 
 // A plain record: any values may stand in it, and a lawful one holds a degree's N - 1 traces and N places, then zeros.
 #[derive(Clone, Copy)]
@@ -24,7 +24,10 @@ impl CodeBook {
     pub fn blank() -> CodeBook
         ensures { λ b. ⌜ ((k : ℕ) → (getD (b .traces) k 0 ≡ 0) × (getD (b .places) k 0 ≡ 0)) ⌝ }
     {
-        CodeBook { traces: [0; 127], places: [0; 128] }
+        CodeBook {
+            traces: [0; 127],
+            places: [0; 128],
+        }
     }
 }
 
@@ -52,7 +55,11 @@ fn fill_traces(row: &TableRow, traces: &mut [u8; 127])
     let period = row.length as usize - 1;
     *traces = [0; 127];
     for j in 0..period {
-        traces[j] = if j < degree { row.first[j] } else { next_trace(row, traces, j - degree) };
+        traces[j] = if j < degree {
+            row.first[j]
+        } else {
+            next_trace(row, traces, j - degree)
+        };
     }
 }
 
@@ -64,7 +71,11 @@ pub(crate) fn trace_at(row: &TableRow, traces: &[u8; 127], j: usize) -> u8
     ensures { λ r. ⌜ r ≡ t (rowOf (now (row .entry) .degree)) j ⌝ }
 {
     let period = row.length as usize - 1;
-    if j < period { traces[j] } else { traces[j - period] }
+    if j < period {
+        traces[j]
+    } else {
+        traces[j - period]
+    }
 }
 
 // The place of index j + 1: bit k is the lowest bit of trace j + k.

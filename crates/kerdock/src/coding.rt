@@ -6,12 +6,12 @@ ghost use Rattle.kerdock.specs.Code.{size, symbol, messages};
 ghost use Rattle.kerdock.specs.Table.{rowOf};
 ghost use Rattle.kerdock.specs.Books.{RowIs, Lawful};
 ghost use Rattle.kerdock.specs.Calls.{encodes, Spells, Written, ComesBack, Alone};
+use crate::books::CodeBook;
 use crate::books::fill_book;
 use crate::books::trace_at;
-use crate::books::CodeBook;
 use crate::refusals::Refusal;
-use crate::rows::row_of;
 use crate::rows::TableRow;
+use crate::rows::row_of;
 
 // The symbol of a message's word at one index, by the trace rule.
 pub(crate) fn symbol_at(row: &TableRow, book: &CodeBook, message: u32, index: usize) -> u8

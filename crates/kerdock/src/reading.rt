@@ -8,12 +8,12 @@ ghost use Rattle.kerdock.specs.Code.{size, symbol, messages, place, sumTo};
 ghost use Rattle.kerdock.specs.Table.{rowOf};
 ghost use Rattle.kerdock.specs.Books.{RowIs, Lawful};
 ghost use Rattle.kerdock.specs.Calls.{Spells, FirstAbove, ReadBack, WrittenAgain};
-use crate::books::fill_book;
 use crate::books::CodeBook;
+use crate::books::fill_book;
 use crate::coding::symbol_at;
 use crate::refusals::Refusal;
-use crate::rows::row_of;
 use crate::rows::TableRow;
+use crate::rows::row_of;
 
 // The first index of a symbol above 3.
 fn first_above(list: &[u8]) -> Option<usize>
@@ -114,5 +114,9 @@ pub fn read_back(degree: u8, list: &[u8]) -> Result<u32, Refusal>
     let mut book = CodeBook::blank();
     fill_book(&row, &mut book);
     let message = candidate(&row, &book, list);
-    if is_word_of(&row, &book, message, list) { Ok(message) } else { Err(Refusal::NoWord) }
+    if is_word_of(&row, &book, message, list) {
+        Ok(message)
+    } else {
+        Err(Refusal::NoWord)
+    }
 }

@@ -25,6 +25,7 @@ loop-j-again c =
     let f = row-facts (c .args .row .now) (c .pre .row) in
     let e : suc (c .loop-j .j) ≡ c .loop-j .j + 1 = omega arith in
     let v : c .place-of .result ≡ place row (c .loop-j .j + 1) = c .place-of .ensures ∙ ap (place row) e in
-    let b : c .loop-j .j + 1 < length (c .loop-j .places) = omega (arith, f .fits) in
-    (rw v (fill-by-more (place row) (c .loop-j .places) (c .loop-j .j + 1) 0 b (c .loop-j .inv .0)),
-    past-more (c .loop-j .places) (c .loop-j .j + 1) (c .place-of .result) (c .loop-j .inv .1))
+    let b : c .loop-j .j + 1 < length (c .loop-j .places) = omega (arith, f .fits) in (
+      rw v (fill-by-more (place row) (c .loop-j .places) (c .loop-j .j + 1) 0 b (c .loop-j .inv .0)),
+      past-more (c .loop-j .places) (c .loop-j .j + 1) (c .place-of .result) (c .loop-j .inv .1),
+    )

@@ -47,9 +47,10 @@ loop-j-again c =
           (let e : s + r .degree ≡ c .loop-j .j = omega arith in
           w .traces-is ∙ w .next-trace .ensures ∙ f .next (c .loop-j .traces) s (λ k h. c .loop-j .inv .0 (s + k) (omega arith))
           ∙ ap (t (rowOf (r .degree))) e)
-    ] in
-    (rw v (fill-by-more (t (rowOf (r .degree))) (c .loop-j .traces) (c .loop-j .j) 0 (let b : c .loop-j .j < length (c .loop-j .traces) = search needs in b) (c .loop-j .inv .0)),
-    past-more (c .loop-j .traces) (c .loop-j .j) (c .if-j-degree .traces) (c .loop-j .inv .1))
+    ] in (
+      rw v (fill-by-more (t (rowOf (r .degree))) (c .loop-j .traces) (c .loop-j .j) 0 (let b : c .loop-j .j < length (c .loop-j .traces) = search needs in b) (c .loop-j .inv .0)),
+      past-more (c .loop-j .traces) (c .loop-j .j) (c .if-j-degree .traces) (c .loop-j .inv .1),
+    )
 
 pub returns : need.returns
 returns c =

@@ -32,12 +32,13 @@ loop-again c =
     let w = c .loop .inv .0 in
     let a = c .loop .inv .1 in
     let b = c .loop .inv .2 in
-    let e : c .loop .weight * ((c .loop .left % 4 + c .loop .right % 4) % 4) ≡ term k = cc in
-    (m .next,
-    ap (λ (x : ℕ). x / 4) a ∙ digits-gone (c .args .first) k,
-    ap (λ (x : ℕ). x / 4) b ∙ digits-gone (c .args .second) k,
-    ap (λ (x : ℕ). c .loop .sum + x) e ∙ sum-step term (c .loop .sum) k (c .loop .inv .3),
-    m .room)
+    let e : c .loop .weight * ((c .loop .left % 4 + c .loop .right % 4) % 4) ≡ term k = cc in (
+      m .next,
+      ap (λ (x : ℕ). x / 4) a ∙ digits-gone (c .args .first) k,
+      ap (λ (x : ℕ). x / 4) b ∙ digits-gone (c .args .second) k,
+      ap (λ (x : ℕ). c .loop .sum + x) e ∙ sum-step term (c .loop .sum) k (c .loop .inv .3),
+      m .room,
+    )
 
 pub returns : need.returns
 returns c =

@@ -65,14 +65,17 @@ loop-again c =
     let row = rowOf (c .args .row .now .degree) in
     let i = c .loop .inv .2 in
     let z = c .loop .inv .0 in
-    let next : c .loop .weight * 4 ≡ 4 ^ suc (k + 1) = w .next ∙ ap (λ (x : ℕ). 4 ^ x) (suc-add k 1) in
-    (next, p .next, omega arith,
-    λ bit h.
-        let here : bit-here c ≡ bit k =
-        ap (λ (x : ℕ). (getD (c .args .list .now) (c .index-of-at .result) 0 + 4 - x) % 4 / c .args .divisor % 2) (c .symbol-at .ensures)
-        ∙ h k (c .index-of-at .result) (c .loop-test .taken) (c .index-of-at .ensures .inside) (c .index-of-at .ensures .found ∙ c .loop .inv .1) in
-        ap (λ (x : ℕ). c .loop .sum + x) (ap₂ _*_ z here)
-        ∙ sum-step (λ l. 4 ^ suc l * bit l) (c .loop .sum) k (c .loop .inv .3 bit h))
+    let next : c .loop .weight * 4 ≡ 4 ^ suc (k + 1) = w .next ∙ ap (λ (x : ℕ). 4 ^ x) (suc-add k 1) in (
+      next,
+      p .next,
+      omega arith,
+      λ bit h.
+          let here : bit-here c ≡ bit k =
+          ap (λ (x : ℕ). (getD (c .args .list .now) (c .index-of-at .result) 0 + 4 - x) % 4 / c .args .divisor % 2) (c .symbol-at .ensures)
+          ∙ h k (c .index-of-at .result) (c .loop-test .taken) (c .index-of-at .ensures .inside) (c .index-of-at .ensures .found ∙ c .loop .inv .1) in
+          ap (λ (x : ℕ). c .loop .sum + x) (ap₂ _*_ z here)
+          ∙ sum-step (λ l. 4 ^ suc l * bit l) (c .loop .sum) k (c .loop .inv .3 bit h),
+    )
 
 pub returns : need.returns
 returns c =
