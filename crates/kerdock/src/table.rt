@@ -6,26 +6,18 @@ ghost use Rattle.kerdock.specs.Sound.{Sound, Published};
 ghost use Rattle.kerdock.specs.Words.{Words};
 ghost use Rattle.kerdock.specs.Examples.{answers, stated, examples};
 
-pub fn table_is_sound() -> u8
+pub fn table_is_sound()
     ensures { λ _. ⌜ ((row : Row) → Among row rows → Sound row) ⌝ }
-{
-    0
-}
+{}
 
-pub fn published_form_holds() -> u8
+pub fn published_form_holds()
     ensures { λ _. ⌜ ((row : Row) → Sound row → Published row) ⌝ }
-{
-    0
-}
+{}
 
-pub fn words_obey() -> u8
+pub fn words_obey()
     ensures { λ _. ⌜ ((row : Row) → Sound row → Words row) ⌝ }
-{
-    0
-}
+{}
 
-pub fn examples_hold() -> u8
+pub fn examples_hold()
     ensures { λ _. ⌜ answers examples ≡ stated examples ⌝ }
-{
-    0
-}
+{}
