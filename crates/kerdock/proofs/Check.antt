@@ -34,7 +34,7 @@ seek p (x ∷ xs) = elim (eqb x p) [ true ↦ 0 | false ↦ suc (seek p xs) ]
 
 abbrev pub shapes : Row → List Bool
 shapes row =
-    ltb 0 (row .degree)
+    ltb 1 (row .degree)
     ∷ ltb (row .degree) 8
     ∷ eqb (length (row .h)) (row .degree)
     ∷ eqb (length (row .first)) (row .degree)

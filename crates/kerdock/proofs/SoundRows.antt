@@ -155,7 +155,7 @@ module _ (row : Row) (pass : T (checks row)) where
 
   pub passes-sound : Sound row
   passes-sound = record {
-    some = ltb→lt 0 (row .degree) (shaped 0);
+    some = ltb→lt 1 (row .degree) (shaped 0);
     few = let b = ltb→lt (row .degree) 8 (shaped 1) in omega arith;
     coefficients = eqb→eq (length (row .h)) (row .degree) (shaped 2);
     begins = eqb→eq (length (row .first)) (row .degree) (shaped 3);

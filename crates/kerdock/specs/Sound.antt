@@ -9,7 +9,7 @@ use Rattle.kerdock.specs.Ring.{zeros, number, plus, power, combination, froben
 use Rattle.kerdock.specs.Code.{Row, size, period, ringTrace, t, sumTo, digit, symbol, place, leader}
 
 pub record Sound (row : Row) : Type 0 where
-  pub some : 0 < row .degree
+  pub some : 1 < row .degree
   pub few : row .degree ≤ 7
   -- as many coefficients, first traces and recurrence coefficients as the degree says
   pub coefficients : length (row .h) ≡ row .degree

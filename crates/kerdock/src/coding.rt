@@ -1,9 +1,11 @@
 // Encoding: a message to its word.
 ghost use mathlib.Core.Path.{_≡_};
+ghost use mathlib.Core.Bool.{cond};
+ghost use Rattle.std.specs.declared.option.Option.the-variants.{Some, None};
 ghost use Prim.Native.Nat.{ℕ, _+_, _*_, _%_, _<_, _≤_};
 ghost use lib.ListN.{length, getD};
 ghost use Rattle.kerdock.specs.Code.{size, symbol, messages};
-ghost use Rattle.kerdock.specs.Table.{rowOf};
+ghost use Rattle.kerdock.specs.Table.{rowOf, known};
 ghost use Rattle.kerdock.specs.Books.{RowIs, Lawful};
 ghost use Rattle.kerdock.specs.Calls.{encodes, Spells, Written, ComesBack, Alone};
 use crate::books::CodeBook;
@@ -41,6 +43,16 @@ pub(crate) fn write_word(row: &TableRow, book: &CodeBook, message: u32, word: &m
 {
     for index in 0..word.len() {
         word[index] = symbol_at(row, book, message, index);
+    }
+}
+
+// How many symbols a word of the degree has.
+pub fn word_length(degree: u8) -> Option<usize>
+    ensures { λ r. ⌜ r ≡ cond (known degree) (Some (size (rowOf degree))) None ⌝ }
+{
+    match row_of(degree) {
+        Some(row) => Some(row.length as usize),
+        None => None,
     }
 }
 

@@ -1,0 +1,2 @@
+pub mod SilentKind
+pub mod ErasableKind

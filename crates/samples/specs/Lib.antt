@@ -1,0 +1,13 @@
+pub mod Meaning
+pub mod Kind
+pub mod Wraps
+pub mod ComplexKind
+pub mod ComplexLaws
+pub mod PhaseKind
+pub mod PhaseLaws
+pub mod Refusals
+pub mod Sizes
+pub mod Transform
+pub mod Passes
+pub mod Outcome
+pub mod Examples
