@@ -19,3 +19,6 @@ pub mod Writes
 pub mod UnitRows
 pub mod Leaders
 pub mod Searching
+pub mod ExampleTests
+pub mod ExamplesPass
+pub mod ExamplesStand

@@ -5,3 +5,4 @@ pub mod Cosets
 pub mod Visits
 pub mod Turnbacks
 pub mod Search
+pub mod Examples

@@ -1,4 +1,5 @@
 // The best of every word: scores, rankings, and the search for the word that leads.
+pub mod examples;
 pub mod laws;
 pub mod ranking;
 pub mod search;

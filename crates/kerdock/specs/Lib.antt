@@ -6,4 +6,3 @@ pub mod Books
 pub mod Refusals
 pub mod Words
 pub mod Calls
-pub mod Examples

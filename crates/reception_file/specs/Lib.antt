@@ -1,0 +1,10 @@
+pub mod Refusals
+pub mod Layout
+pub mod Check
+pub mod StoredKind
+pub mod ComplexParts
+pub mod PhaseParts
+pub mod Pick
+pub mod Write
+pub mod Partly
+pub mod Laws
