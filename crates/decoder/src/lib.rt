@@ -1,6 +1,6 @@
 // The best of every word: scores, rankings, and the search for the word that leads.
 pub mod examples;
 pub mod laws;
-pub mod ranking;
+mod ranking;
 pub mod search;
-pub mod tables;
+mod tables;
