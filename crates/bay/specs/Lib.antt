@@ -1,0 +1,5 @@
+pub mod Rules
+pub mod Law
+pub mod Lived
+pub mod Steps
+pub mod Replay
