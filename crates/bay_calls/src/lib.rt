@@ -1,5 +1,7 @@
 //! The bay: it gathers the receptions of one word, decides which word it was, and hands out verdicts. The rules of its
 //! dealings, and the law of its verdicts, stand in the crate `bay_rules`.
+#![tactic(auto)]
+
 mod admission;
 mod answering;
 mod bays;

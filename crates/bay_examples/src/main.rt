@@ -1,5 +1,7 @@
 //! Worked examples on real bays: what they decide, what they deny, and how they go on. That a verdict is answered once only
 //! needs no example here: to answer it twice cannot be written.
+#![tactic(auto)]
+
 mod deciding;
 mod denying;
 mod going_on;

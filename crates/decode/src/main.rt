@@ -1,4 +1,6 @@
 //! Decodes a reception file from standard input, and prints the outcome as one line.
+#![tactic(auto)]
+
 ghost use Rattle.std.specs.Prelude.{◌≤◌, length, IfOk};
 
 use gateway::line;

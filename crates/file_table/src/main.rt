@@ -1,4 +1,6 @@
 //! Good and damaged files, one line a case: what the check, picking and writing answer.
+#![tactic(auto)]
+
 ghost use Rattle.std.specs.Prelude.{◌<◌, ◌≤◌, length};
 
 use reception_file::{Refusal, Stored, check, pick, write};

@@ -1,4 +1,6 @@
 // The Z4 Kerdock code: code books, encoding, reading back, and sums of messages.
+#![tactic(auto)]
+
 pub mod books;
 pub mod coding;
 pub mod messages;

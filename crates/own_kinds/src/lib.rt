@@ -1,4 +1,6 @@
 //! Two kinds of samples written outside of the crate `samples`, against its trait alone.
+#![tactic(auto)]
+
 mod erasable;
 mod silent;
 

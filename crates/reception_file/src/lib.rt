@@ -1,4 +1,6 @@
 //! Reception files: bytes checked, a reception picked out of them, and receptions written as bytes.
+#![tactic(auto)]
+
 mod checking;
 mod head;
 mod kinds;

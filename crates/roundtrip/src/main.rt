@@ -1,5 +1,7 @@
 // Messages through the code and back: every message of degrees 3 and 5 and a spread of degree 7 is encoded and read back,
 // each word is damaged at one index and must be refused, and a report is printed.
+#![tactic(auto)]
+
 use kerdock::books::{CodeBook, make_book};
 use kerdock::coding::encode;
 use kerdock::messages::add_messages;

@@ -9,7 +9,7 @@ use crate::sample::Sample;
 
 /// One step of the transform: the sum of two samples, and the sum with the second turned twice.
 pub fn step<S: Sample>(a: S, b: S) -> (S, S)
-    ensures { result ≡ (added a b, added a (turned (turned b))) }
+    ensures { result ≡ (S.added a b, S.added a (S.turned (S.turned b))) }
 {
     (a.add(b), a.add(b.turn().turn()))
 }

@@ -1,4 +1,6 @@
 //! What a sample means, two kinds of samples, and the transform over every kind.
+#![tactic(auto)]
+
 mod complex;
 mod crossing;
 mod examples;

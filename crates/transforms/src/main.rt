@@ -1,4 +1,6 @@
 //! Runs the transform at every length, for both kinds, and compares it with its definition.
+#![tactic(auto)]
+
 ghost use Rattle.std.specs.Prelude.{◌≤◌, length};
 
 mod definition;

@@ -1,5 +1,7 @@
 //! Tries the decoder on cases from standard input, one a line: the bytes of a reception file in hexadecimal, a tab, and the
 //! line that is due. Prints a line for each case that comes out otherwise, and counts the cases at the end.
+#![tactic(auto)]
+
 mod hexadecimal;
 
 use hexadecimal::bytes_of;

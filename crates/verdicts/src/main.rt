@@ -1,4 +1,6 @@
 //! Runs the search on named sums and on sums drawn at random, and compares it with the definition worked out message by message.
+#![tactic(auto)]
+
 mod definition;
 
 use decoder::search::{Leader, search};

@@ -22,7 +22,7 @@ returns-then-work-sums g c =
     let r = c.args.standing.now in
     let xs = c.args.sums.now in
     let book = c.args.book.now in
-    let at : r.stage ≡ Gathering = only_gathering (λ s. admitted s Decide) refl (λ v. refl) r.stage _ c.in-default.ensures in
+    let at : r.stage ≡ Gathering = only_gathering (λ s. admitted s Decide) refl (λ v. refl) r.stage _ c.in_default.ensures in
     record {
       steps = decide_misfits (seen m r book xs) (length c.args.work.now) (gathers m r book xs at) c.if-standing-eq0.false
           (λ e. c.if-work-sums.true (e ∙ as_many m xs));
@@ -37,7 +37,7 @@ returns-in-Some g c =
     let r = c.args.standing.now in
     let xs = c.args.sums.now in
     let book = c.args.book.now in
-    let at : r.stage ≡ Gathering = only_gathering (λ s. admitted s Decide) refl (λ v. refl) r.stage _ c.in-default.ensures in
+    let at : r.stage ≡ Gathering = only_gathering (λ s. admitted s Decide) refl (λ v. refl) r.stage _ c.in_default.ensures in
     let b : State = seen m r book xs in
     let gs = gathers m r book xs at in
     let f : SFits w32 c.in-Some.leader.score = search rules in
@@ -66,7 +66,7 @@ returns-in-None g c =
     let r = c.args.standing.now in
     let xs = c.args.sums.now in
     let book = c.args.book.now in
-    let at : r.stage ≡ Gathering = only_gathering (λ s. admitted s Decide) refl (λ v. refl) r.stage _ c.in-default.ensures in
+    let at : r.stage ≡ Gathering = only_gathering (λ s. admitted s Decide) refl (λ v. refl) r.stage _ c.in_default.ensures in
     let found = c.in-None.ensures.searched in
     let kept = c.look.ensures.kept in
     record {

@@ -13,7 +13,7 @@ returns g c =
     let m = g.S.Sample in
     let r = c.args.standing.now in
     let xs = c.args.sums.now in
-    let at : r.stage ≡ Gathering = only_gathering (λ s. admitted s Clear) refl (λ v. refl) r.stage _ c.in-default.ensures in
+    let at : r.stage ≡ Gathering = only_gathering (λ s. admitted s Clear) refl (λ v. refl) r.stage _ c.in_default.ensures in
     record {
       steps = λ book.
           let gs = gathers m r book xs at in

@@ -16,7 +16,7 @@ returns-then-reception-sums g c =
     let r = c.args.standing.now in
     let xs = c.args.sums.now in
     let handed = c.args.reception.now in
-    let at : r.stage ≡ Gathering = only_gathering (λ s. admitted s Take) refl (λ v. refl) r.stage _ c.in-default.ensures in
+    let at : r.stage ≡ Gathering = only_gathering (λ s. admitted s Take) refl (λ v. refl) r.stage _ c.in_default.ensures in
     record {
       steps = λ book. take_misfits (seen m r book xs) (meanings m handed) (gathers m r book xs at)
           (λ e. c.if-reception-sums.true (sym (as_many m handed) ∙ e ∙ as_many m xs));
@@ -30,7 +30,7 @@ returns-in-Some g c =
     let r = c.args.standing.now in
     let xs = c.args.sums.now in
     let handed = c.args.reception.now in
-    let at : r.stage ≡ Gathering = only_gathering (λ s. admitted s Take) refl (λ v. refl) r.stage _ c.in-default.ensures in
+    let at : r.stage ≡ Gathering = only_gathering (λ s. admitted s Take) refl (λ v. refl) r.stage _ c.in_default.ensures in
     record {
       steps = λ book. take_too_large (seen m r book xs) (meanings m handed) (gathers m r book xs at) c.in-Some.i
           (as_many m handed ∙ c.if-reception-sums.false ∙ sym (as_many m xs)) (one_large m handed c.in-Some.i c.in-Some.ensures);
@@ -44,10 +44,10 @@ returns-then-standing-ge16 g c =
     let r = c.args.standing.now in
     let xs = c.args.sums.now in
     let handed = c.args.reception.now in
-    let at : r.stage ≡ Gathering = only_gathering (λ s. admitted s Take) refl (λ v. refl) r.stage _ c.in-default.ensures in
+    let at : r.stage ≡ Gathering = only_gathering (λ s. admitted s Take) refl (λ v. refl) r.stage _ c.in_default.ensures in
     record {
       steps = λ book. take_full (seen m r book xs) (meanings m handed) (gathers m r book xs at)
-          (as_many m handed ∙ c.if-reception-sums.false ∙ sym (as_many m xs)) (no_large m handed c.in-default-first-above.ensures)
+          (as_many m handed ∙ c.if-reception-sums.false ∙ sym (as_many m xs)) (no_large m handed c.in_default-first_above.ensures)
           c.if-standing-ge16.true;
       summed = tt;
       unmoved = (refl, refl);
@@ -59,15 +59,15 @@ returns g c =
     let r = c.args.standing.now in
     let xs = c.args.sums.now in
     let handed = c.args.reception.now in
-    let at : r.stage ≡ Gathering = only_gathering (λ s. admitted s Take) refl (λ v. refl) r.stage _ c.in-default.ensures in
+    let at : r.stage ≡ Gathering = only_gathering (λ s. admitted s Take) refl (λ v. refl) r.stage _ c.in_default.ensures in
     record {
       steps = λ book.
           let gs = gathers m r book xs at in
           takes (seen m r book xs) (meanings m handed) gs _
-          (as_many m handed ∙ c.if-reception-sums.false ∙ sym (as_many m xs)) (no_large m handed c.in-default-first-above.ensures)
+          (as_many m handed ∙ c.if-reception-sums.false ∙ sym (as_many m xs)) (no_large m handed c.in_default-first_above.ensures)
           c.if-standing-ge16.false
           (record { closed = refl; degree = refl; book = refl; held_is = refl; noted_is = gs.none })
-          (added_means m xs handed _ c.if-reception-sums.false c.add-into.ensures);
-      summed = c.add-into.ensures;
+          (added_means m xs handed _ c.if-reception-sums.false c.add_into.ensures);
+      summed = c.add_into.ensures;
       unmoved = tt;
     }

@@ -10,17 +10,17 @@ use Rattle.bay_calls.proofs.playing.play_all.Goals as goal
 pub loop-i-preserved : goal.loop-i-preserved
 loop-i-preserved g c =
     let m = g.S.Sample in
-    let p = c.play-one.ensures in
+    let p = c.play_one.ensures in
     let inv = c.loop-i.invariant in
     let i : ℕ = c.loop-i.i in
-    let a = c.play-one.result in
+    let a = c.play_one.result in
     let sums : ℕ = length c.args.bay.now.sums.now in (
       λ o l. turn m c.args.pool.now (length c.args.work.now) (length c.loop-i.work) c.args.dealings.now c.loop-i.answers i a o
-          c.args.bay.now c.loop-i.bay c.play-one.new.bay c.loop-i.auto.work (omega arith) (inv.0 o l) p.deals p.unmoved,
+          c.args.bay.now c.loop-i.bay c.play_one.new.bay c.loop-i.auto.work (omega arith) (inv.0 o l) p.deals p.unmoved,
       beyond_more i c.args.answers.now c.loop-i.answers a inv.1,
       p.lent ∙ inv.2,
-      work_more m sums i c.loop-i.answers c.args.work.now c.loop-i.work c.play-one.new.work (omega arith) inv.3 a
-          (subst (λ (k : ℕ). WorkAfter m k a c.loop-i.work c.play-one.new.work) inv.4 p.works),
+      work_more m sums i c.loop-i.answers c.args.work.now c.loop-i.work c.play_one.new.work (omega arith) inv.3 a
+          (subst (λ (k : ℕ). WorkAfter m k a c.loop-i.work c.play_one.new.work) inv.4 p.works),
       p.long ∙ inv.4,
     )
 

@@ -11,16 +11,16 @@ use Rattle.decoder.proofs.PassingOver.{passed_over}
 use Rattle.decoder.proofs.Spreads.{message_spread}
 use Rattle.decoder.proofs.VisitTimes.{visit_time, visits_apart, visited_coset, visited_place}
 use Rattle.decoder.proofs.ranking.rank_coset.Goals as goal
-use Rattle.decoder.proofs.ranking.rank_coset.Goals.{then-not-passes-over, else-not-passes-over}
+use Rattle.decoder.proofs.ranking.rank_coset.Goals.{then-not-passes_over, else-not-passes_over}
 
-pub returns-then-passes-over : goal.returns-then-passes-over
-returns-then-passes-over g c row f sound long lu r small scores =
+pub returns-then-passes_over : goal.returns-then-passes_over
+returns-then-passes_over g c row f sound long lu r small scores =
     let top = c.peak.result in
     let u = c.args.u in
     let n = size row in
     let cs = cosets row sound in
     let fits : SFits w32 top = search rules in
-    let weak = rw (to_z-of_z fits) at (c.if-passes-over.ensures tt) in
+    let weak = rw (to_z-of_z fits) at (c.if-passes_over.ensures tt) in
     let under : (v e : ℕ) → v < n → e < 4 → f (message row e u v) ≤ℤ top =
     λ v e h l. rw (scores v e h l) (c.peak.ensures small v e (omega arith) l) in
     let new : (k : ℕ) → k < messages row → 4 * (u * n) ≤ visit row k → visit row k < 4 * (u * n) + 4 * n → f k ≤ℤ top =
@@ -48,27 +48,27 @@ loop-v-preserved g c row f sound long lu r small scores =
     let so_far = c.loop-v.invariant row f sound long lu r small scores in
     let score : (e : ℕ) → e < 4 → f (message row e u v) ≡ reads (m.means x) e = λ e l. scores v e lv l ∙ ap (λ y. reads (m.means y) e) (sym is_x) in
     let next : t + 4 ≡ 4 * (u * n + (v + 1)) = omega arith in
-    let ranked : Ranked (messages row) f (visit row) (t + 4) c.if-not-passes-over.best =
-    elim c.if-not-passes-over.branch [
-      | then-not-passes-over w ↦
+    let ranked : Ranked (messages row) f (visit row) (t + 4) c.if-not-passes_over.best =
+    elim c.if-not-passes_over.branch [
+      | then-not-passes_over w ↦
           let base = 4 * (c.spread-lower.result + 2 * w.spread.result) in
           let number : (e : ℕ) → base + e ≡ message row e u v =
           λ e. ap₂ (λ (y z : ℕ). 4 * (y + 2 * z) + e) c.spread-lower.ensures.is w.spread.ensures.is ∙ message_spread row e u v sound.few lu lv in
-          rw w.best-is (w.rank-place-best.ensures (messages row) f (visit row) t so_far (visits_apart row sound) size-x (λ e l. record {
+          rw w.best-is (w.rank_place-best.ensures (messages row) f (visit row) t so_far (visits_apart row sound) size-x (λ e l. record {
             below = rw (number e) ((cosets row sound).within e u v l);
             time = ap (visit row) (number e) ∙ visit_time row sound e u v l lu lv;
             score = ap f (number e) ∙ score e l;
           }))
-      | else-not-passes-over w ↦
-          let top = c.peak-of.result in
+      | else-not-passes_over w ↦
+          let top = c.peak_of.result in
           let fits : SFits w32 top = search rules in
-          let weak = rw (to_z-of_z fits) at (w.if-not-passes-over.ensures tt) in
-          let under : (e : ℕ) → e < 4 → f (message row e u v) ≤ℤ top = λ e l. rw (score e l) (c.peak-of.ensures size-x e l) in
+          let weak = rw (to_z-of_z fits) at (w.if-not-passes_over.ensures tt) in
+          let under : (e : ℕ) → e < 4 → f (message row e u v) ≤ℤ top = λ e l. rw (score e l) (c.peak_of.ensures size-x e l) in
           rw w.best-is (passed_over (messages row) f (visit row) t 4 c.loop-v.best so_far top weak
           (λ k l a b. rw (visited_place row sound k u v l lv a b) (under (digit k 0) (mod-lt _ (omega arith))))
           (message row 0 u v) ((cosets row sound).within 0 u v (omega arith)) (under 0 (omega arith)))
     ] in
-    subst (λ (y : ℕ). Ranked (messages row) f (visit row) y c.if-not-passes-over.best) next ranked
+    subst (λ (y : ℕ). Ranked (messages row) f (visit row) y c.if-not-passes_over.best) next ranked
 
 pub returns : goal.returns
 returns g c row f sound long lu r small scores =

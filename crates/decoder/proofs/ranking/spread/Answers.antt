@@ -30,14 +30,14 @@ room w k x e l h =
 bit_more : (c : goal.In-loop) → Room c.loop.weight c.loop.counter (c.loop.rest % 2)
 bit_more c = room _ _ _ c.loop.invariant.0 (omega arith) (mod-lt _ (omega arith))
 
-pub overflow-mul-sum : goal.overflow-mul-sum
-overflow-mul-sum c = let m = bit_more c in omega arith
+pub overflow_mul-sum : goal.overflow_mul-sum
+overflow_mul-sum c = let m = bit_more c in omega arith
 
-pub overflow-add-sum : goal.overflow-add-sum
-overflow-add-sum c = let m = bit_more c in let i = c.loop.invariant in omega arith
+pub overflow_add-sum : goal.overflow_add-sum
+overflow_add-sum c = let m = bit_more c in let i = c.loop.invariant in omega arith
 
-pub overflow-mul-weight : goal.overflow-mul-weight
-overflow-mul-weight c = let m = bit_more c in omega arith
+pub overflow_mul-weight : goal.overflow_mul-weight
+overflow_mul-weight c = let m = bit_more c in omega arith
 
 pub loop-preserved : goal.loop-preserved
 loop-preserved c =

@@ -14,8 +14,8 @@ lay-requires g c =
     let two : 2 ^ 2 ≤ 2 ^ c.args.degree = pow_mono c.requires.few.0 in
     record { some = omega arith; coset = omega arith; room = omega arith; within = c.requires.within; small = c.requires.small }
 
-pub rank-coset-requires : goal.rank-coset-requires
-rank-coset-requires g c =
+pub rank_coset-requires : goal.rank_coset-requires
+rank_coset-requires g c =
     let seven : 2 ^ c.args.degree ≤ 2 ^ 7 = pow_mono c.requires.few.1 in
     (omega arith, omega arith)
 
@@ -27,7 +27,7 @@ returns g c = record {
       let u = c.args.u in
       let sums = c.args.sums.now in
       let laid = c.lay.new.work in
-      let done = c.transform-sized.new.w in
+      let done = c.transform_sized.new.w in
       let n : size row ≡ 2 ^ c.args.degree = ap (λ (k : ℕ). 2 ^ k) deg in
       let seven : 2 ^ c.args.degree ≤ 2 ^ 7 = pow_mono c.requires.few.1 in
       let long : length sums ≡ size row = omega arith in
@@ -37,12 +37,12 @@ returns g c = record {
       let w = sound.within i b in
       c.lay.ensures (place row i) (omega arith)
       ∙ ap₂ (λ (s k : ℕ). times m ((4 - s) % 4) (get_or sums k m.zeroed)) (led i b) (found i b) in
-      let fits : T c.transform-sized.result =
-      not_failed c.transform-sized.result (λ no. c.transform-sized.ensures.unfit no c.requires.few.1 (omega arith)) in
+      let fits : T c.transform_sized.result =
+      not_failed c.transform_sized.result (λ no. c.transform_sized.ensures.unfit no c.requires.few.1 (omega arith)) in
       let within = laid_within m row sound u sums laid long width small turned in
       let transformed : Transformed m laid done =
-      c.transform-sized.ensures.sums fits loudest within (loudest_fits (length laid) (omega arith)) in
-      c.rank-coset.ensures row (score row (meanings m sums)) sound (transformed.long ∙ width) (omega arith) ranked
+      c.transform_sized.ensures.sums fits loudest within (loudest_fits (length laid) (omega arith)) in
+      c.rank_coset.ensures row (score row (meanings m sums)) sound (transformed.long ∙ width) (omega arith) ranked
       (coset_within m row sound u sums laid long width small turned done transformed)
       (coset_reads m row sound u sums laid long width small turned done transformed);
 }

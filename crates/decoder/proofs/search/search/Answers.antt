@@ -28,8 +28,8 @@ loop-u-init g c = λ lawful small.
     let z : 0 ≡ 4 * (0 * size (row_of d)) = let e = zero-mul (size (row_of d)) in omega arith in
     subst (λ (t : ℕ). Ranked (messages (row_of d)) f (visit (row_of d)) t c.nobody-best.result) z start
 
-pub rank-one-best-requires : goal.rank-one-best-requires
-rank-one-best-requires g c =
+pub rank_one-best-requires : goal.rank_one-best-requires
+rank_one-best-requires g c =
     let s = sized c.args.degree c.in-Some.n c.in-Some.ensures in
     let below = c.indices-at.ensures.below in
     record {
@@ -53,7 +53,7 @@ loop-u-preserved g c = λ lawful small.
     let w = s.sound.within i b in
     c.leaders-leaders.ensures.is row s.sound s.deg lawful u (place row i) (omega arith) (omega arith)
     ∙ ap (symbol row (message row 0 u 0)) (found i b) in
-    c.rank-one-best.ensures.ranked row s.sound s.deg small found led (c.loop-u.invariant lawful small)
+    c.rank_one-best.ensures.ranked row s.sound s.deg small found led (c.loop-u.invariant lawful small)
 
 pub returns : goal.returns
 returns g c =
@@ -68,6 +68,6 @@ returns g c =
           let n : c.loop-u.u ≡ size row = omega arith in
           let ranked : Ranked (messages row) (score row (meanings m sums)) (visit row) (4 * (size row * size row)) c.loop-u.best =
           subst (λ (u : ℕ). Ranked (messages row) (score row (meanings m sums)) (visit row) (4 * (u * size row)) c.loop-u.best) n (c.loop-u.invariant lawful small) in
-          leader_found m row s.sound sums small c.loop-u.best c.leader-of.result
-          c.leader-of.ensures.message c.leader-of.ensures.score (c.leader-of.ensures.margin ranked.order) ranked,
+          leader_found m row s.sound sums small c.loop-u.best c.leader_of.result
+          c.leader_of.ensures.message c.leader_of.ensures.score (c.leader_of.ensures.margin ranked.order) ranked,
     )

@@ -22,8 +22,8 @@ back_at m x y z w (suc (suc zero)) o a b c h = b ∙ ap m.turned a
 back_at m x y z w (suc (suc (suc zero))) o a b c h = a
 back_at m x y z w (suc (suc (suc (suc s)))) o a b c h = absurd (omega arith)
 
-pub offset-bounds-turned-leaders : goal.offset-bounds-turned-leaders
-offset-bounds-turned-leaders g c =
+pub offset_bounds-turned-leaders : goal.offset_bounds-turned-leaders
+offset_bounds-turned-leaders g c =
     let s = c.requires.small (c.args.u * 128 + c.loop-p.p) in
     let fits : length c.args.sums.now * prog.Memory.size (denote.Param.layout g.row.S) < 2 ^ 63 = search rules in
     let p = small_offset (get_or c.args.leaders.now (c.args.u * 128 + c.loop-p.p) 0) (length c.args.sums.now) (prog.Memory.size (denote.Param.layout g.row.S)) s c.requires.some fits in

@@ -11,21 +11,21 @@ sizes c =
 pub loop-k-init : goal.loop-k-init
 loop-k-init c = (refl, led_none c.args.book.now c.args.n c.args.degree c.args.at.now 16384)
 
-pub unit-row-unit-requires : goal.unit-row-unit-requires
-unit-row-unit-requires c = let z = sizes c in (z.some, (z.few, (z.before, c.requires.1.1.1)))
+pub unit_row-unit-requires : goal.unit_row-unit-requires
+unit_row-unit-requires c = let z = sizes c in (z.some, (z.few, (z.before, c.requires.1.1.1)))
 
-pub add-row-requires : goal.add-row-requires
-add-row-requires c =
-    let z = sizes (goal.at.add-row-requires c).In-loop-k in
-    (c.loop-u-test.true, (z.light, (z.few, (c.loop-u.invariant.small, c.unit-row-unit.ensures.small))))
+pub add_row-requires : goal.add_row-requires
+add_row-requires c =
+    let z = sizes (goal.at.add_row-requires c).In-loop-k in
+    (c.loop-u-test.true, (z.light, (z.few, (c.loop-u.invariant.small, c.unit_row-unit.ensures.small))))
 
 pub loop-u-preserved : goal.loop-u-preserved
 loop-u-preserved c =
     let z = sizes (goal.at.loop-u-preserved c).In-loop-k in
-    let made = c.add-row.ensures in
+    let made = c.add_row.ensures in
     led_more c.args.book.now c.args.n c.args.degree c.args.at.now c.loop-k.k c.loop-u.u c.loop-k.half
-    c.unit-row-unit.result c.loop-u.out c.add-row.new.out
-    c.requires.0 z.few c.loop-k-test.true c.loop-k.invariant.0 c.loop-u-test.true c.unit-row-unit.ensures.is c.loop-u.invariant
+    c.unit_row-unit.result c.loop-u.out c.add_row.new.out
+    c.requires.0 z.few c.loop-k-test.true c.loop-k.invariant.0 c.loop-u-test.true c.unit_row-unit.ensures.is c.loop-u.invariant
     made.small made.here made.elsewhere
 
 pub loop-k-preserved : goal.loop-k-preserved

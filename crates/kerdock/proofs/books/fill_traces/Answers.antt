@@ -7,14 +7,14 @@ use Rattle.kerdock.proofs.Fills.{all_zeros, past_more}
 use Rattle.kerdock.proofs.books.fill_traces.Goals as goal
 use Rattle.kerdock.proofs.books.fill_traces.Goals.{then-j-degree, else-j-degree}
 
-pub overflow-sub-period : goal.overflow-sub-period
-overflow-sub-period c = let f = row_facts c.args.row.now c.requires in omega arith
+pub overflow_sub-period : goal.overflow_sub-period
+overflow_sub-period c = let f = row_facts c.args.row.now c.requires in omega arith
 
 pub bounds-row-j : goal.bounds-row-j
 bounds-row-j c = let f = row_facts c.args.row.now c.requires in omega arith
 
-pub next-trace-requires : goal.next-trace-requires
-next-trace-requires c =
+pub next_trace-requires : goal.next_trace-requires
+next_trace-requires c =
     let f = row_facts c.args.row.now c.requires in
     record {
       small = λ k h.
@@ -41,7 +41,7 @@ loop-j-preserved c =
       | then-j-degree w ↦ w.traces-is ∙ f.first c.loop-j.j w.if-j-degree.true
       | else-j-degree w ↦
           (let e : s + r.degree ≡ c.loop-j.j = omega arith in
-          w.traces-is ∙ w.next-trace.ensures ∙ f.next c.loop-j.traces s (λ k h. c.loop-j.invariant.0 (s + k) (omega arith))
+          w.traces-is ∙ w.next_trace.ensures ∙ f.next c.loop-j.traces s (λ k h. c.loop-j.invariant.0 (s + k) (omega arith))
           ∙ ap (t (row_of r.degree)) e)
     ] in (
       rw v (fill_by_more (t (row_of r.degree)) c.loop-j.traces c.loop-j.j 0 (let b : c.loop-j.j < length c.loop-j.traces = search rules in b) c.loop-j.invariant.0),

@@ -3,8 +3,8 @@ use Rattle.kerdock.proofs.RowFacts.{small_product}
 use Rattle.kerdock.proofs.Sums.{sum_step}
 use Rattle.kerdock.proofs.books.next_trace.Goals as goal
 
-pub overflow-mul-sum : goal.overflow-mul-sum
-overflow-mul-sum c =
+pub overflow_mul-sum : goal.overflow_mul-sum
+overflow_mul-sum c =
     let p = small_product _ _ (c.requires.rule c.loop-k.k c.loop-k-test.true) (c.requires.small c.loop-k.k c.loop-k-test.true) in omega arith
 
 pub loop-k-preserved : goal.loop-k-preserved
@@ -12,6 +12,6 @@ loop-k-preserved c =
     let p = small_product _ _ (c.requires.rule c.loop-k.k c.loop-k-test.true) (c.requires.small c.loop-k.k c.loop-k-test.true) in
     (sum_step _ _ _ c.loop-k.invariant.0, omega arith)
 
-pub overflow-add-sum-in-loop-k : goal.overflow-add-sum-in-loop-k
-overflow-add-sum-in-loop-k c =
+pub overflow_add-sum-in-loop-k : goal.overflow_add-sum-in-loop-k
+overflow_add-sum-in-loop-k c =
     let p = small_product _ _ (c.requires.rule c.loop-k.k c.loop-k-test.true) (c.requires.small c.loop-k.k c.loop-k-test.true) in omega arith

@@ -6,28 +6,28 @@ use Rattle.kerdock.proofs.RowFacts.{row_facts}
 use Rattle.kerdock.proofs.Weights.{Weighed, weighed}
 use Rattle.kerdock.proofs.books.place_of.Goals as goal
 
-pub overflow-add-j : goal.overflow-add-j
-overflow-add-j c = let f = row_facts c.args.row.now c.requires.row in omega (arith, c.requires.within)
+pub overflow_add-j : goal.overflow_add-j
+overflow_add-j c = let f = row_facts c.args.row.now c.requires.row in omega (arith, c.requires.within)
 
-pub trace-at-requires : goal.trace-at-requires
-trace-at-requires c =
+pub trace_at-requires : goal.trace_at-requires
+trace_at-requires c =
     let f = row_facts c.args.row.now c.requires.row in
     record { row = c.requires.row; filled = c.requires.filled; within = omega (arith, c.requires.within) }
 
 -- one more bit
-bit_more : (c : goal.After-trace-at) → Weighed 2 6 c.loop-k.weight c.loop-k.place (c.trace_at.result % 2) c.loop-k.k
+bit_more : (c : goal.After-trace_at) → Weighed 2 6 c.loop-k.weight c.loop-k.place (c.trace_at.result % 2) c.loop-k.k
 bit_more c =
     let f = row_facts c.args.row.now c.requires.row in
     weighed 2 6 _ _ _ _ c.loop-k.invariant.0 c.loop-k.invariant.2 (mod-lt _ (omega arith)) (omega arith) (omega arith)
 
-pub overflow-mul-place : goal.overflow-mul-place
-overflow-mul-place c = let m = bit_more c in omega arith
+pub overflow_mul-place : goal.overflow_mul-place
+overflow_mul-place c = let m = bit_more c in omega arith
 
-pub overflow-add-place : goal.overflow-add-place
-overflow-add-place c = let m = bit_more c in omega arith
+pub overflow_add-place : goal.overflow_add-place
+overflow_add-place c = let m = bit_more c in omega arith
 
-pub overflow-mul-weight : goal.overflow-mul-weight
-overflow-mul-weight c = let m = bit_more c in omega arith
+pub overflow_mul-weight : goal.overflow_mul-weight
+overflow_mul-weight c = let m = bit_more c in omega arith
 
 pub loop-k-preserved : goal.loop-k-preserved
 loop-k-preserved c =

@@ -4,8 +4,8 @@ use Rattle.kerdock.specs.Table.{row_of}
 use Rattle.kerdock.proofs.RowFacts.{row_facts}
 use Rattle.kerdock.proofs.books.trace_at.Goals as goal
 
-pub overflow-sub-period : goal.overflow-sub-period
-overflow-sub-period c = let f = row_facts c.args.row.now c.requires.row in omega arith
+pub overflow_sub-period : goal.overflow_sub-period
+overflow_sub-period c = let f = row_facts c.args.row.now c.requires.row in omega arith
 
 pub bounds-traces-j : goal.bounds-traces-j
 bounds-traces-j c = let f = row_facts c.args.row.now c.requires.row in omega arith

@@ -12,14 +12,14 @@ returns c =
     let here = c.in-Some.ensures in
     let f = row_facts c.in-Some.row here.1 in
     let listed : T (known d) = subst (λ (n : ℕ). T (known n)) here.0 here.1.listed in
-    let spells : Spells (row_of d) c.args.message c.write-word.new.word =
-    subst (λ (n : ℕ). Spells (row_of n) c.args.message c.write-word.new.word) here.0 c.write-word.ensures in
+    let spells : Spells (row_of d) c.args.message c.write_word.new.word =
+    subst (λ (n : ℕ). Spells (row_of n) c.args.message c.write_word.new.word) here.0 c.write_word.ensures in
     let long : c.in-Some.row.length ≡ size (row_of d) = subst (λ (n : ℕ). c.in-Some.row.length ≡ size (row_of n)) here.0 (sym f.long) in
     let range : c.args.message < messages (row_of d) =
     subst (λ (n : ℕ). c.args.message < 4 * n * n) long (omega arith) in
     record {
       answer = sym (encodes_ok d listed c.args.message (length c.args.word.now) range (omega arith));
       written = spells;
-      comes_back = comes_back d listed c.write-word.new.word c.args.message range spells;
-      alone = λ k b x. spells_alone d listed c.write-word.new.word c.args.message k range b spells x;
+      comes_back = comes_back d listed c.write_word.new.word c.args.message range spells;
+      alone = λ k b x. spells_alone d listed c.write_word.new.word c.args.message k range b spells x;
     }

@@ -12,27 +12,27 @@ returns-then-index-eq0 c = symbol_first (row_of c.args.row.now.degree) c.args.me
 pub loop-k-init : goal.loop-k-init
 loop-k-init c = let e = digit_first c.args.message in (omega arith, omega arith, omega arith)
 
-pub overflow-add-index : goal.overflow-add-index
-overflow-add-index c = let f = row_facts c.args.row.now c.requires.row in omega (arith, c.requires.within)
+pub overflow_add-index : goal.overflow_add-index
+overflow_add-index c = let f = row_facts c.args.row.now c.requires.row in omega (arith, c.requires.within)
 
-pub trace-at-requires : goal.trace-at-requires
-trace-at-requires c =
+pub trace_at-requires : goal.trace_at-requires
+trace_at-requires c =
     let f = row_facts c.args.row.now c.requires.row in
     record { row = c.requires.row; filled = c.requires.book.traces; within = omega (arith, c.requires.within) }
 
 -- one digit times one trace is at most 9
-small_term : (c : goal.After-trace-at) → c.loop-k.rest % 4 * c.trace_at.result ≤ 9
+small_term : (c : goal.After-trace_at) → c.loop-k.rest % 4 * c.trace_at.result ≤ 9
 small_term c =
     let f = row_facts c.args.row.now c.requires.row in
     let e = c.trace_at.ensures in
     let s = f.sound.symbols (c.args.index - 1 + c.loop-k.k) in
     small_product _ _ (mod-lt _ (omega arith)) (omega arith)
 
-pub overflow-mul-sum : goal.overflow-mul-sum
-overflow-mul-sum c = let s = small_term c in omega arith
+pub overflow_mul-sum : goal.overflow_mul-sum
+overflow_mul-sum c = let s = small_term c in omega arith
 
-pub overflow-add-sum : goal.overflow-add-sum
-overflow-add-sum c =
+pub overflow_add-sum : goal.overflow_add-sum
+overflow_add-sum c =
     let s = small_term c in
     let f = row_facts c.args.row.now c.requires.row in omega arith
 

@@ -8,4 +8,4 @@ pub loop-index-preserved : goal.loop-index-preserved
 loop-index-preserved c =
     let row = row_of c.args.row.now.degree in
     let b : c.loop-index.index < length c.loop-index.word = search rules in
-    rw c.symbol-at.ensures (fill_by_more (symbol row c.args.message) c.loop-index.word c.loop-index.index 0 b c.loop-index.invariant)
+    rw c.symbol_at.ensures (fill_by_more (symbol row c.args.message) c.loop-index.word c.loop-index.index 0 b c.loop-index.invariant)

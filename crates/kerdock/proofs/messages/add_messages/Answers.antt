@@ -7,11 +7,11 @@ use Rattle.kerdock.proofs.Words.{words}
 use Rattle.kerdock.proofs.Laws.{adds_ok}
 use Rattle.kerdock.proofs.messages.add_messages.Goals as goal
 
-pub overflow-add-row : goal.overflow-add-row
-overflow-add-row c = let f = row_facts c.in-Some.row c.in-Some.ensures.1 in omega arith
+pub overflow_add-row : goal.overflow_add-row
+overflow_add-row c = let f = row_facts c.in-Some.row c.in-Some.ensures.1 in omega arith
 
-pub sum-digits-requires : goal.sum-digits-requires
-sum-digits-requires c = let f = row_facts c.in-Some.row c.in-Some.ensures.1 in omega arith
+pub sum_digits-requires : goal.sum_digits-requires
+sum_digits-requires c = let f = row_facts c.in-Some.row c.in-Some.ensures.1 in omega arith
 
 pub returns : goal.returns
 returns c =
@@ -26,10 +26,10 @@ returns c =
     let a : m < messages (row_of d) = subst (λ (n : ℕ). m < 4 * n * n) long c.if-first-messages.false in
     let b : v < messages (row_of d) = subst (λ (n : ℕ). v < 4 * n * n) long c.if-second-messages.false in
     let count : c.in-Some.row.degree + 1 ≡ suc (row_of d).degree = add-one c.in-Some.row.degree ∙ ap suc (here.0 ∙ sym sound.1) in
-    let sum : c.sum-digits.result ≡ sum_of (row_of d) m v =
-    c.sum-digits.ensures ∙ ap (sum_to (λ k. 4 ^ k * ((digit m k + digit v k) % 4))) count in
+    let sum : c.sum_digits.result ≡ sum_of (row_of d) m v =
+    c.sum_digits.ensures ∙ ap (sum_to (λ k. 4 ^ k * ((digit m k + digit v k) % 4))) count in
     let obey = words (row_of d) sound.0 in
     record {
       answer = ap Ok sum ∙ sym (adds_ok d listed m v a b);
-      words-add = subst (λ (n : ℕ). WordsAdd d m v (Ok n)) (sym sum) (obey.sum_within m v, obey.adds m v);
+      words_add = subst (λ (n : ℕ). WordsAdd d m v (Ok n)) (sym sum) (obey.sum_within m v, obey.adds m v);
     }

@@ -12,14 +12,14 @@ loop-init c = (refl, sym (div-one c.args.first), sym (div-one c.args.second), re
 digit_more : (c : goal.In-loop) → Weighed 4 7 c.loop.weight c.loop.sum ((c.loop.left % 4 + c.loop.right % 4) % 4) c.loop.counter
 digit_more c = weighed 4 7 _ _ _ _ c.loop.invariant.0 c.loop.invariant.4 (mod-lt _ (omega arith)) (omega arith) (omega arith)
 
-pub overflow-mul-sum : goal.overflow-mul-sum
-overflow-mul-sum c = let m = digit_more c in omega arith
+pub overflow_mul-sum : goal.overflow_mul-sum
+overflow_mul-sum c = let m = digit_more c in omega arith
 
-pub overflow-add-sum-in-loop : goal.overflow-add-sum-in-loop
-overflow-add-sum-in-loop c = let m = digit_more c in omega arith
+pub overflow_add-sum-in-loop : goal.overflow_add-sum-in-loop
+overflow_add-sum-in-loop c = let m = digit_more c in omega arith
 
-pub overflow-mul-weight : goal.overflow-mul-weight
-overflow-mul-weight c = let m = digit_more c in omega arith
+pub overflow_mul-weight : goal.overflow_mul-weight
+overflow_mul-weight c = let m = digit_more c in omega arith
 
 pub loop-preserved : goal.loop-preserved
 loop-preserved c =

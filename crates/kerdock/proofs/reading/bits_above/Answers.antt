@@ -8,49 +8,49 @@ use Rattle.kerdock.proofs.Weights.{Weighed, weighed, bit_times}
 use Rattle.kerdock.proofs.Words.{words}
 use Rattle.kerdock.proofs.reading.bits_above.Goals as goal
 
-pub index-of-at-requires : goal.index-of-at-requires
-index-of-at-requires c =
+pub index_of-at-requires : goal.index_of-at-requires
+index_of-at-requires c =
     let f = row_facts c.args.row.now c.requires.row in
     let few : c.loop.counter < (row_of c.args.row.now.degree).degree = omega arith in
     let small : 2 ^ c.loop.counter < 2 ^ (row_of c.args.row.now.degree).degree = pow-lt few in
     record { row = c.requires.row; book = c.requires.book; within = omega arith }
 
-pub overflow-sub-above : goal.overflow-sub-above
-overflow-sub-above c =
+pub overflow_sub-above : goal.overflow_sub-above
+overflow_sub-above c =
     let f = row_facts c.args.row.now c.requires.row in
-    let e = c.symbol-at.ensures in
-    let s = (words (row_of c.args.row.now.degree) f.sound).small c.args.known c.index-of-at.result in
+    let e = c.symbol_at.ensures in
+    let s = (words (row_of c.args.row.now.degree) f.sound).small c.args.known c.index_of-at.result in
     omega arith
 
 -- the weight and the place of this turn, and of the next
-weight_more : (c : goal.After-symbol-at) → Weighed 4 7 c.loop.weight 0 0 (suc c.loop.counter)
+weight_more : (c : goal.After-symbol_at) → Weighed 4 7 c.loop.weight 0 0 (suc c.loop.counter)
 weight_more c =
     let f = row_facts c.args.row.now c.requires.row in
     weighed 4 7 _ 0 0 _ c.loop.invariant.0 (omega (arith, c.loop.invariant.2)) (omega arith) (omega arith) (omega arith)
 
-place_more : (c : goal.After-symbol-at) → Weighed 2 6 c.loop.place 0 0 c.loop.counter
+place_more : (c : goal.After-symbol_at) → Weighed 2 6 c.loop.place 0 0 c.loop.counter
 place_more c =
     let f = row_facts c.args.row.now c.requires.row in
     weighed 2 6 _ 0 0 _ c.loop.invariant.1 (pow_pos c.loop.counter) (omega arith) (omega arith) (omega arith)
 
 -- the bit of this turn, at its weight
-abbrev bit_here : goal.After-symbol-at → ℕ
-bit_here c = (get_or c.args.list.now c.index-of-at.result 0 + 4 - c.symbol-at.result) % 4 / c.args.divisor % 2
+abbrev bit_here : goal.After-symbol_at → ℕ
+bit_here c = (get_or c.args.list.now c.index_of-at.result 0 + 4 - c.symbol_at.result) % 4 / c.args.divisor % 2
 
-bit_more : (c : goal.After-symbol-at) → c.loop.weight * bit_here c ≤ c.loop.weight
+bit_more : (c : goal.After-symbol_at) → c.loop.weight * bit_here c ≤ c.loop.weight
 bit_more c = bit_times c.loop.weight (bit_here c) (mod-lt _ (omega arith))
 
-pub overflow-mul-sum : goal.overflow-mul-sum
-overflow-mul-sum c = let w = weight_more c in let b = bit_more c in omega arith
+pub overflow_mul-sum : goal.overflow_mul-sum
+overflow_mul-sum c = let w = weight_more c in let b = bit_more c in omega arith
 
-pub overflow-add-sum : goal.overflow-add-sum
-overflow-add-sum c = let w = weight_more c in let b = bit_more c in let i = c.loop.invariant.2 in omega arith
+pub overflow_add-sum : goal.overflow_add-sum
+overflow_add-sum c = let w = weight_more c in let b = bit_more c in let i = c.loop.invariant.2 in omega arith
 
-pub overflow-mul-weight : goal.overflow-mul-weight
-overflow-mul-weight c = let w = weight_more c in omega arith
+pub overflow_mul-weight : goal.overflow_mul-weight
+overflow_mul-weight c = let w = weight_more c in omega arith
 
-pub overflow-mul-place : goal.overflow-mul-place
-overflow-mul-place c = let p = place_more c in omega arith
+pub overflow_mul-place : goal.overflow_mul-place
+overflow_mul-place c = let p = place_more c in omega arith
 
 pub loop-preserved : goal.loop-preserved
 loop-preserved c =
@@ -67,8 +67,8 @@ loop-preserved c =
       omega arith,
       λ bit h.
           let here : bit_here c ≡ bit k =
-          ap (λ (x : ℕ). (get_or c.args.list.now c.index-of-at.result 0 + 4 - x) % 4 / c.args.divisor % 2) c.symbol-at.ensures
-          ∙ h k c.index-of-at.result c.loop-test.true c.index-of-at.ensures.inside (c.index-of-at.ensures.found ∙ c.loop.invariant.1) in
+          ap (λ (x : ℕ). (get_or c.args.list.now c.index_of-at.result 0 + 4 - x) % 4 / c.args.divisor % 2) c.symbol_at.ensures
+          ∙ h k c.index_of-at.result c.loop-test.true c.index_of-at.ensures.inside (c.index_of-at.ensures.found ∙ c.loop.invariant.1) in
           ap (λ (x : ℕ). c.loop.sum + x) (ap₂ ◌*◌ z here)
           ∙ sum_step (λ l. 4 ^ suc l * bit l) c.loop.sum k (c.loop.invariant.3 bit h),
     )

@@ -16,16 +16,16 @@ few r h =
     let seven : suc r.degree ≤ 8 = omega arith in
     pow-le-pow_right {n = 4} (omega arith) seven
 
-pub overflow-add-lower : goal.overflow-add-lower
-overflow-add-lower c =
+pub overflow_add-lower : goal.overflow_add-lower
+overflow_add-lower c =
     let w = few c.args.row.now c.requires.row in
     let s = c.requires.small 0 in omega arith
 
-pub overflow-mul-result : goal.overflow-mul-result
-overflow-mul-result c = let w = few c.args.row.now c.requires.row in omega arith
+pub overflow_mul-result : goal.overflow_mul-result
+overflow_mul-result c = let w = few c.args.row.now c.requires.row in omega arith
 
-pub overflow-add-result : goal.overflow-add-result
-overflow-add-result c =
+pub overflow_add-result : goal.overflow_add-result
+overflow_add-result c =
     let w = few c.args.row.now c.requires.row in
     let s = c.requires.small 0 in omega arith
 
@@ -41,14 +41,14 @@ returns c =
       range = omega arith;
       only = λ m a x.
           let e = first_is row f.sound list m a x in
-          let low : c.bits-above.result ≡ sum_to (λ k. 4 ^ suc k * (digit m (suc k) % 2)) row.degree =
-          c.bits-above.ensures.bits (λ k. digit m (suc k) % 2)
+          let low : c.bits_above.result ≡ sum_to (λ k. 4 ^ suc k * (digit m (suc k) % 2)) row.degree =
+          c.bits_above.ensures.bits (λ k. digit m (suc k) % 2)
           (λ k i b d p. lower_bit row f.sound list m a x (get_or list 0 0) e k i (omega arith) d p)
           ∙ ap (sum_to (λ k. 4 ^ suc k * (digit m (suc k) % 2))) (sym f.deg) in
-          let lower : get_or list 0 0 + c.bits-above.result ≡ digit m 0 + sum_to (λ k. 4 ^ suc k * (digit m (suc k) % 2)) row.degree = omega arith in
-          let high : c.bits-above-2.result ≡ sum_to (λ k. 4 ^ suc k * (digit m (suc k) / 2)) row.degree =
-          c.bits-above-2.ensures.bits (λ k. digit m (suc k) / 2)
-          (λ k i b d p. upper_bit row f.sound list m a x (get_or list 0 0 + c.bits-above.result) lower k i (omega arith) d p)
+          let lower : get_or list 0 0 + c.bits_above.result ≡ digit m 0 + sum_to (λ k. 4 ^ suc k * (digit m (suc k) % 2)) row.degree = omega arith in
+          let high : c.bits_above-2.result ≡ sum_to (λ k. 4 ^ suc k * (digit m (suc k) / 2)) row.degree =
+          c.bits_above-2.ensures.bits (λ k. digit m (suc k) / 2)
+          (λ k i b d p. upper_bit row f.sound list m a x (get_or list 0 0 + c.bits_above.result) lower k i (omega arith) d p)
           ∙ ap (sum_to (λ k. 4 ^ suc k * (digit m (suc k) / 2))) (sym f.deg) in
           let w = whole row f.sound list m a x in omega arith;
     }

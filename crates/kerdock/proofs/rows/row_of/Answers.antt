@@ -15,6 +15,6 @@ pub returns-in-7 : goal.returns-in-7
 unfolding known row_of
 returns-in-7 c = (omega arith, record { listed = tt; long = refl; begins = refl; follows = refl })
 
-pub returns-in-default : goal.returns-in-default
+pub returns-in_default : goal.returns-in_default
 unfolding known
-returns-in-default c = λ h. grind (arith, nat_tests)
+returns-in_default c = λ h. grind (arith, nat_tests)

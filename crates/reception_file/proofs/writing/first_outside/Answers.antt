@@ -10,4 +10,4 @@ quiet z w r f u e l = let s : nat_abs w ≡ r = ap nat_abs (sym e) ∙ (ap nat_a
 pub loop-j-preserved : goal.loop-j-preserved
 loop-j-preserved g c =
     below_more _ _ c.loop-j.invariant
-    (quiet c.part-of.result _ c.unsigned-abs.result (search rules) c.unsigned-abs.ensures.value c.part-of.ensures (omega arith))
+    (quiet c.part_of.result _ c.unsigned_abs.result (search rules) c.unsigned_abs.ensures.value c.part_of.ensures (omega arith))

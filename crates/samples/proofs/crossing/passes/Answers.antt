@@ -9,8 +9,8 @@ pub loop-init : goal.loop-init
 unfolding after
 loop-init g c = (refl, λ v l. refl)
 
-pub overflow-mul-h : goal.overflow-mul-h
-overflow-mul-h g c =
+pub overflow_mul-h : goal.overflow_mul-h
+overflow_mul-h g c =
     let f = fits c.args.degree c.loop.counter (length c.args.w.now) c.loop.h c.requires c.loop-test.true c.loop.invariant.0 in
     omega arith
 
@@ -19,8 +19,8 @@ pass-requires g c =
     let long : length c.loop.w ≡ 2 ^ c.args.degree = c.loop.auto.w ∙ c.requires in
     filled c.args.degree c.loop.counter (length c.loop.w) c.loop.h long c.loop-test.true c.loop.invariant.0
 
-pub overflow-mul-h-in-loop : goal.overflow-mul-h-in-loop
-overflow-mul-h-in-loop g c =
+pub overflow_mul-h-in-loop : goal.overflow_mul-h-in-loop
+overflow_mul-h-in-loop g c =
     let f = fits c.args.degree c.loop.counter (length c.args.w.now) c.loop.h c.requires c.loop-test.true c.loop.invariant.0 in
     omega arith
 

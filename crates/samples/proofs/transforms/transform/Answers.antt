@@ -13,12 +13,12 @@ returns g c =
     let fits : Fitting (length old) = elim c.match-w.branch [ in-8 w ↦ inl w.in-8.is | in-32 w ↦ inr (inl w.in-32.is) | in-128 w ↦ inr (inr w.in-128.is) ] in
     let long : length old ≡ 2 ^ c.match-w.degree =
     elim c.match-w.branch [
-      | in-8 w ↦ w.in-8.is ∙ ap (λ d. 2 ^ d) (sym w.degree_is)
-      | in-32 w ↦ w.in-32.is ∙ ap (λ d. 2 ^ d) (sym w.degree_is)
-      | in-128 w ↦ w.in-128.is ∙ ap (λ d. 2 ^ d) (sym w.degree_is)
+      | in-8 w ↦ w.in-8.is ∙ ap (λ d. 2 ^ d) (sym w.degree-is)
+      | in-32 w ↦ w.in-32.is ∙ ap (λ d. 2 ^ d) (sym w.degree-is)
+      | in-128 w ↦ w.in-128.is ∙ ap (λ d. 2 ^ d) (sym w.degree-is)
     ] in
     let short : length old ≤ 128 = elim fits [ inl e ↦ omega arith | inr (inl e) ↦ omega arith | inr (inr e) ↦ omega arith ] in
-    let within : Within m loudest old = λ k l. let e = c.in-default-first-above.ensures k l in omega arith in
+    let within : Within m loudest old = λ k l. let e = c.in_default-first_above.ensures k l in omega arith in
     record {
       fits = fits;
       within = within;

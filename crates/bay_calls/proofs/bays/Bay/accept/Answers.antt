@@ -5,13 +5,13 @@ use Rattle.bay_calls.proofs.bays.Bay.accept.Goals as goal
 
 pub returns : goal.returns
 returns g c =
-    let p = c.accept-on.ensures in
+    let p = c.accept_on.ensures in
     let done = p.steps c.args.self.now.book in
     record {
       steps = done;
       deals = deals _ _ _ _ done;
       zeros = p.zeros;
-      unmoved = unmoved c.accept-on.result c.args.self.now _ _ p.unmoved;
+      unmoved = unmoved c.accept_on.result c.args.self.now _ _ p.unmoved;
       back = p.back;
       lent = refl;
     }

@@ -5,12 +5,12 @@ use Rattle.bay_calls.proofs.bays.Bay.clear.Goals as goal
 
 pub returns : goal.returns
 returns g c =
-    let p = c.clear-out.ensures in
+    let p = c.clear_out.ensures in
     let done = p.steps c.args.self.now.book in
     record {
       steps = done;
       deals = deals _ _ _ _ done;
       zeros = p.zeros;
-      unmoved = unmoved c.clear-out.result c.args.self.now _ _ p.unmoved;
+      unmoved = unmoved c.clear_out.result c.args.self.now _ _ p.unmoved;
       lent = refl;
     }

@@ -13,7 +13,7 @@ returns-in-Ok g c =
     let m = g.S.Sample in
     let b = c.args.self.now in
     let p = c.in-Ok.ensures in
-    let done = subst (λ (n : Numbers). Steps (state m b) (Decide (length c.args.work.now)) (Delivered (five n)) (seen m c.decide-on.new.standing b.book c.decide-on.new.sums))
+    let done = subst (λ (n : Numbers). Steps (state m b) (Decide (length c.args.work.now)) (Delivered (five n)) (seen m c.decide_on.new.standing b.book c.decide_on.new.sums))
     (sym c.issue.ensures) p.steps in
     let both = deals _ _ _ _ done in
     record {

@@ -11,7 +11,7 @@ returns-in-Some g c =
     let m = g.S.Sample in
     let xs = c.args.memory.now in
     let opened = opens (opening c.args.degree (length xs)) c.in-Some.n _ (meanings m xs) _ c.in-Some.ensures (sym c.if-n-memory.true)
-    (as_many m xs ∙ sym c.if-n-memory.true) (zero_means m xs _ c.clean.ensures) c.make-book.ensures.made in
+    (as_many m xs ∙ sym c.if-n-memory.true) (zero_means m xs _ c.clean.ensures) c.make_book.ensures.made in
     record {
       opens = opened;
       lends = refl;

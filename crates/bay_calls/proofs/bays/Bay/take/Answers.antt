@@ -5,12 +5,12 @@ use Rattle.bay_calls.proofs.bays.Bay.take.Goals as goal
 
 pub returns : goal.returns
 returns g c =
-    let p = c.take-in.ensures in
+    let p = c.take_in.ensures in
     let done = p.steps c.args.self.now.book in
     record {
       steps = done;
       deals = deals _ _ _ _ done;
       summed = p.summed;
-      unmoved = unmoved c.take-in.result c.args.self.now _ _ p.unmoved;
+      unmoved = unmoved c.take_in.result c.args.self.now _ _ p.unmoved;
       lent = refl;
     }
