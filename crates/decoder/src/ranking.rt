@@ -60,7 +60,7 @@ fn passes_over(best: Best, top: i32) -> bool
 
 // The greatest of the four readings of a sample.
 fn peak_of<S: Sample>(x: S) -> i32
-    ensures { (means x).size ≤ limit → (e : ℕ) → e < 4 → reads (means x) e ≤ℤ result }
+    ensures { (S.means x).size ≤ limit → (e : ℕ) → e < 4 → reads (S.means x) e ≤ℤ result }
 {
     let y = x.turn();
     let z = y.turn();
@@ -98,7 +98,7 @@ pub(crate) fn spread(x: u32) -> u32
 // Ranks the four messages that the sample at one place reads, by the symbols 0, 3, 2, 1.
 fn rank_place<S: Sample>(best: Best, x: S, base: u32) -> Best
     requires { base ≤ 65532 }
-    ensures { (n : ℕ) (f : ℕ → ℤ) (key : ℕ → ℕ) (t : ℕ) → Ranked n f key t best → Apart n key → (means x).size ≤ limit → ((e : ℕ) → e < 4 → Here n f key t base (means x) e) → Ranked n f key (t + 4) result }
+    ensures { (n : ℕ) (f : ℕ → ℤ) (key : ℕ → ℕ) (t : ℕ) → Ranked n f key t best → Apart n key → (S.means x).size ≤ limit → ((e : ℕ) → e < 4 → Here n f key t base (S.means x) e) → Ranked n f key (t + 4) result }
 {
     let mut best = best;
     let mut x = x;

@@ -83,7 +83,7 @@ pub(crate) fn lay<S: Sample>(
     requires room { length work.old ≤ 128 }
     requires within { (p : ℕ) → slice_index at.now p < length sums.now }
     requires small { (k : ℕ) → slice_index leaders.now k < 4 }
-    ensures { (p : ℕ) → p < length work.new → slice_index_or work.new p zeroed ≡ times S.Sample ((4 - slice_index leaders.now (u * 128 + p)) % 4) (slice_index_or sums.now (slice_index at.now p) zeroed) }
+    ensures { (p : ℕ) → p < length work.new → slice_index_or work.new p S.zeroed ≡ times S.Sample ((4 - slice_index leaders.now (u * 128 + p)) % 4) (slice_index_or sums.now (slice_index at.now p) S.zeroed) }
 {
     for p in 0..work.len() {
         let x = sums[at[p] as usize];

@@ -16,8 +16,8 @@ fn take_one<S: Stored>(bytes: &[u8], number: usize, bay: &mut Bay<'_, S>, memory
     requires kind { at bytes.now 5 ≡ S.Stored.code }
     requires inside { number < at bytes.now 7 }
     requires long { length memory.old ≡ samples_at bytes.now }
-    requires took { Took S.Sample S.Stored bytes.now number (state S.Sample bay.old) }
-    ensures { Took S.Sample S.Stored bytes.now (number + 1) (state S.Sample bay.new) }
+    requires took { Took S.Sample S.Stored.own bytes.now number (state S.Sample bay.old) }
+    ensures { Took S.Sample S.Stored.own bytes.now (number + 1) (state S.Sample bay.new) }
 {
     match pick(bytes, number, memory) {
         Ok(_) => {}
@@ -60,7 +60,7 @@ pub(crate) fn decode_with<S: Stored>(
     requires sums { length sums.old ≡ samples_at bytes.now }
     requires work { length work.old ≡ samples_at bytes.now }
     requires memory { length memory.old ≡ samples_at bytes.now }
-    ensures { Settled S.Sample S.Stored bytes.now result }
+    ensures { Settled S.Sample S.Stored.own bytes.now result }
 {
     let mut bay = Bay::open(head.degree, sums);
     for r in 0..head.count as usize {

@@ -24,7 +24,7 @@ fn sample_from<S: Stored>(bytes: &[u8], first: usize) -> S
 /// Fills the memory with the samples of a file from the sample of a number on.
 fn read_samples<S: Stored>(bytes: &[u8], first: usize, memory: &mut [S])
     requires { place_of ((first + length memory.old) * S.Stored.width) ≤ length bytes.now }
-    ensures { Holds S.Sample S.Stored bytes.now first memory.new }
+    ensures { Holds S.Sample S.Stored.own bytes.now first memory.new }
 {
     for i in 0..memory.len() {
         memory[i] = sample_from(bytes, (first + i) * S::parts());
@@ -33,8 +33,8 @@ fn read_samples<S: Stored>(bytes: &[u8], first: usize, memory: &mut [S])
 
 /// Leaves one reception of a file in the memory, and answers the degree. Receptions are numbered from 0.
 pub fn pick<S: Stored>(bytes: &[u8], reception: usize, memory: &mut [S]) -> Result<u8, Refusal>
-    ensures picks { Picks S.Sample S.Stored bytes.now reception memory.old result memory.new }
-    ensures written_again { WrittenAgain S.Sample S.Stored bytes.now result }
+    ensures picks { Picks S.Sample S.Stored.own bytes.now reception memory.old result memory.new }
+    ensures written_again { WrittenAgain S.Sample S.Stored.own bytes.now result }
 {
     let head = check(bytes)?;
     if head.kind != S::kind() {

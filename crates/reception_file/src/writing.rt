@@ -13,7 +13,7 @@ use crate::stored::Stored;
 /// The part of a number, over all parts of the samples.
 fn part_of<S: Stored>(samples: &[S], number: usize) -> i32
     requires { number < length samples.now * S.Stored.width }
-    ensures { result ≡ part_of S.Sample S.Stored samples.now number }
+    ensures { result ≡ part_of S.Sample S.Stored.own samples.now number }
 {
     let parts = S::parts();
     samples[number / parts].part_of(number % parts)
@@ -22,7 +22,7 @@ fn part_of<S: Stored>(samples: &[S], number: usize) -> i32
 /// The number of the first part of the samples that is not allowed.
 fn first_outside<S: Stored>(samples: &[S], total: usize) -> Option<usize>
     requires { total ≡ length samples.now * S.Stored.width }
-    ensures { MatchOption result ((j : ℕ) → j < total → unsigned_abs (part_of S.Sample S.Stored samples.now j) ≤ allowed) (λ j. Above (λ k. unsigned_abs (part_of S.Sample S.Stored samples.now k)) total allowed j) }
+    ensures { MatchOption result ((j : ℕ) → j < total → unsigned_abs (part_of S.Sample S.Stored.own samples.now j) ≤ allowed) (λ j. Above (λ k. unsigned_abs (part_of S.Sample S.Stored.own samples.now k)) total allowed j) }
 {
     for j in 0..total {
         if part_of(samples, j).unsigned_abs() > 32767 {
@@ -34,7 +34,7 @@ fn first_outside<S: Stored>(samples: &[S], total: usize) -> Option<usize>
 
 /// How many parts there are to write.
 fn weigh<S: Stored>(degree: u8, count: u8, samples: &[S]) -> Result<usize, Refusal>
-    ensures { Weighed S.Sample S.Stored degree count samples.now result }
+    ensures { Weighed S.Sample S.Stored.own degree count samples.now result }
 {
     match (degree, count) {
         (3 | 5 | 7, 1..=16) => {
@@ -79,9 +79,9 @@ fn write_part(number: usize, part: i32, bytes: &mut [u8])
 /// Writes all parts behind the head.
 fn write_parts<S: Stored>(samples: &[S], total: usize, bytes: &mut [u8])
     requires many { total ≡ length samples.now * S.Stored.width }
-    requires within { (j : ℕ) → j < total → unsigned_abs (part_of S.Sample S.Stored samples.now j) ≤ allowed }
+    requires within { (j : ℕ) → j < total → unsigned_abs (part_of S.Sample S.Stored.own samples.now j) ≤ allowed }
     requires room { place_of total ≤ length bytes.old }
-    ensures { Laid (part_of S.Sample S.Stored samples.now) total bytes.old bytes.new }
+    ensures { Laid (part_of S.Sample S.Stored.own samples.now) total bytes.old bytes.new }
 {
     for j in 0..total {
         write_part(j, part_of(samples, j), bytes);
@@ -95,8 +95,8 @@ pub fn write<S: Stored>(
     samples: &[S],
     bytes: &mut [u8],
 ) -> Result<usize, Refusal>
-    ensures writes { Writes S.Sample S.Stored degree count samples.now bytes.old result bytes.new }
-    ensures comes_back { ComesBack S.Sample S.Stored degree count samples.now bytes.new result }
+    ensures writes { Writes S.Sample S.Stored.own degree count samples.now bytes.old result bytes.new }
+    ensures comes_back { ComesBack S.Sample S.Stored.own degree count samples.now bytes.new result }
 {
     let total = weigh(degree, count, samples)?;
     let size = 8 + 2 * total;

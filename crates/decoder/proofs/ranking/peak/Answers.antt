@@ -20,7 +20,7 @@ loop-x-preserved g c small v e h l =
     elim (cases_lt v i) [
       | inl before ↦
           let p = c.loop-x.invariant small v e before l in
-          let q = c.max-peak.ensures.self-bound in
+          let q = c.max-peak.ensures.self_bound in
           omega (arith, ints)
       | inr after ↦
           let here : v ≡ i = omega arith in
@@ -28,7 +28,7 @@ loop-x-preserved g c small v e h l =
           let size-x : (m.means x).size ≤ limit = rw is_x (small i (omega arith)) in
           let read : reading_at m xs v e ≡ reads (m.means x) e = ap (λ (k : ℕ). reading_at m xs k e) here ∙ ap (λ y. reads (m.means y) e) (sym is_x) in
           let p = c.peak_of.ensures size-x e l in
-          let q = c.max-peak.ensures.other-bound in
+          let q = c.max-peak.ensures.other_bound in
           let fits-x : SFits w32 c.peak_of.result = search rules in
           let back-x : to_z w32 (of_z w32 c.peak_of.result) ≡ c.peak_of.result = to_z-of_z fits-x in
           omega (arith, ints)

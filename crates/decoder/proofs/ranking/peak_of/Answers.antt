@@ -20,12 +20,12 @@ returns g c small e lt =
     let two : c.front-3.result ≡ read 2 = c.front-3.ensures ∙ ap m.fronted y ∙ times_front m x small 2 (omega arith) in
     let one : c.front-4.result ≡ read 1 =
     c.front-4.ensures ∙ ap m.fronted (c.turn-w.ensures ∙ ap m.turned y) ∙ times_front m x small 3 (omega arith) in
-    let left : c.max.result ≤ℤ top = bounded _ _ (search rules) c.max-3.ensures.self-bound in
-    let right : c.max-2.result ≤ℤ top = bounded _ _ (search rules) c.max-3.ensures.other-bound in
-    let b0 : c.front.result ≤ℤ c.max.result = bounded _ _ (search rules) c.max.ensures.self-bound in
-    let b3 : c.front-2.result ≤ℤ c.max.result = bounded _ _ (search rules) c.max.ensures.other-bound in
-    let b2 : c.front-3.result ≤ℤ c.max-2.result = bounded _ _ (search rules) c.max-2.ensures.self-bound in
-    let b1 : c.front-4.result ≤ℤ c.max-2.result = bounded _ _ (search rules) c.max-2.ensures.other-bound in
+    let left : c.max.result ≤ℤ top = bounded _ _ (search rules) c.max-3.ensures.self_bound in
+    let right : c.max-2.result ≤ℤ top = bounded _ _ (search rules) c.max-3.ensures.other_bound in
+    let b0 : c.front.result ≤ℤ c.max.result = bounded _ _ (search rules) c.max.ensures.self_bound in
+    let b3 : c.front-2.result ≤ℤ c.max.result = bounded _ _ (search rules) c.max.ensures.other_bound in
+    let b2 : c.front-3.result ≤ℤ c.max-2.result = bounded _ _ (search rules) c.max-2.ensures.self_bound in
+    let b1 : c.front-4.result ≤ℤ c.max-2.result = bounded _ _ (search rules) c.max-2.ensures.other_bound in
     let fits : SFits w32 top = search rules in
     let back : to_z w32 (of_z w32 top) ≡ top = to_z-of_z fits in
     by_symbol (λ s. read s ≤ℤ to_z w32 (of_z w32 top)) (omega (arith, ints)) (omega (arith, ints)) (omega (arith, ints)) (omega (arith, ints)) e lt

@@ -20,5 +20,5 @@ returns g c =
     c.args.reception (omega (arith, h.1.2)) c.in_ok-head.head.degree c.read_samples.new.memory g.met.S.Stored.bounded h.0 (search rules) h.1.1 c.read_samples.ensures in
     record {
       picks = (p, search rules);
-      written_again = written_again g.S.Sample g.S.Stored c.args.bytes.now (λ i. omega (arith, c.type-inv.bytes i)) c.args.reception c.in_ok-head.head.degree c.read_samples.new.memory p;
+      written_again = written_again g.S.Sample g.S.Stored c.args.bytes.now (λ i. omega (arith, c.type_inv.bytes i)) c.args.reception c.in_ok-head.head.degree c.read_samples.new.memory p;
     }

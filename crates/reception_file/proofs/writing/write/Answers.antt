@@ -8,7 +8,7 @@ use Rattle.reception_file.proofs.writing.write.Goals as goal
 
 pub returns-in_err-total : goal.returns-in_err-total
 returns-in_err-total g c =
-    let p = err_from_is_err_and c.from-residual.result c.from-residual.ensures.1 in
+    let p = err_from_is_err_and c.from_residual.result c.from_residual.ensures.1 in
     record {
       writes = rw (p.1, p.2) (c.in_err-total.ensures (length c.args.bytes.now), search rules);
       comes_back = rw p.1 tt;
