@@ -4,7 +4,7 @@ use borrow.Author.Differences.{ints}
 use Rattle.kerdock.specs.Code.{Row, size}
 use Rattle.kerdock.specs.Table.{row_of}
 use Rattle.kerdock.specs.Sound.{Sound}
-use Rattle.decoder.specs.Scores.{Reception, score, scores}
+use Rattle.decoder.specs.Scores.{Reception, scores}
 use Rattle.decoder.proofs.Totals.{scores_add}
 use Rattle.decoder.proofs.Rankings.{near_scores}
 use Rattle.decoder.proofs.Turns.{turned_scores}

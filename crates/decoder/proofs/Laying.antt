@@ -1,13 +1,13 @@
 -- A coset, laid and transformed: its samples read the scores of its messages.
-use Rattle.std.proofs.Common.{◌≡◌, ℕ, zero, suc, ◌+◌, ◌-◌, ◌*◌, ◌%◌, ◌^◌, ◌<◌, ◌≤◌, Bool, true, false, T, List, map, length, get_or, ℤ, sym, ap, ◌∙◌, mul-le-mul_right, arith, pow_mono}
+use Rattle.std.proofs.Common.{◌≡◌, ℕ, zero, suc, ◌+◌, ◌-◌, ◌*◌, ◌%◌, ◌^◌, ◌<◌, ◌≤◌, Bool, true, false, T, List, length, get_or, sym, ap, ◌∙◌, mul-le-mul_right, arith, pow_mono}
 use Rattle.std.proofs.lemmas.List.{get_or-map}
 use Rattle.samples.specs.Meaning.{reads, silence, over}
 use Rattle.samples.specs.Kind.{limit}
 use Rattle.samples.specs.Sizes.{Within, size_at}
-use Rattle.samples.specs.Transform.{parity, reading_at, summed, loudest, Transformed}
+use Rattle.samples.specs.Transform.{parity, reading_at, loudest, Transformed}
 use Rattle.samples.specs.declared.sample.Sample.{Ghosts}
 use Rattle.samples.proofs.Sums.{over_same}
-use Rattle.kerdock.specs.Code.{Row, size, symbol, place}
+use Rattle.kerdock.specs.Code.{Row, size, symbol}
 use Rattle.kerdock.specs.Sound.{Sound}
 use Rattle.kerdock.proofs.Words.{words}
 use Rattle.decoder.specs.Cosets.{message}

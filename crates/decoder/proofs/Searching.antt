@@ -1,5 +1,5 @@
 -- What the search knows at its start, and what it has found at its end.
-use Rattle.std.proofs.Common.{◌≡◌, ℕ, ◌+◌, ◌*◌, ◌^◌, ◌<◌, ◌≤◌, Bool, true, false, cond, T, List, map, length, get_or, ℤ, pos, nat_abs, Some, None, Option, sym, ap, ◌∙◌, subst, arith, pow_mono}
+use Rattle.std.proofs.Common.{◌≡◌, ℕ, ◌*◌, ◌^◌, ◌≤◌, Bool, true, false, cond, T, List, nat_abs, Some, None, sym, ap, ◌∙◌, subst, arith, pow_mono}
 use borrow.Author.Differences.{ints}
 use Rattle.std.proofs.ByRecursion.{All-from_get_or, All-map}
 use Rattle.samples.specs.Kind.{limit}

@@ -1,12 +1,12 @@
 -- Every message is visited once, before the end, and a ranking of all that are visited is the ranking.
-use Rattle.std.proofs.Common.{◌≡◌, ℕ, ◌+◌, ◌-◌, ◌*◌, ◌/◌, ◌%◌, ◌<◌, ℤ, sym, ap, ◌∙◌, mod-lt, arith}
-use lib.Arith.{digits_lt, digits_div, digits_mod}
+use Rattle.std.proofs.Common.{ℕ, ◌+◌, ◌*◌, ◌<◌, ℤ, ◌∙◌, arith}
+use lib.Arith.{digits_lt}
 use borrow.Author.Differences.{ints}
-use Rattle.kerdock.specs.Code.{Row, size, messages, digit}
+use Rattle.kerdock.specs.Code.{Row, size, messages}
 use Rattle.kerdock.specs.Sound.{Sound}
-use Rattle.decoder.specs.Cosets.{message, lows, highs}
+use Rattle.decoder.specs.Cosets.{lows, highs}
 use Rattle.decoder.specs.Ranking.{Leads}
-use Rattle.decoder.specs.Visits.{Apart, Ranked, visit}
+use Rattle.decoder.specs.Visits.{Ranked, visit}
 use Rattle.decoder.specs.Turnbacks.{Margin, VisitsAll}
 use Rattle.decoder.specs.declared.ranking.Best.{Best}
 use Rattle.decoder.proofs.Cosets.{cosets}

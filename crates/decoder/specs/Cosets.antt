@@ -4,7 +4,7 @@
 --   lows     the number whose bit k is L(k) modulo 2
 --   highs    the number whose bit k is the upper bit of L(k)
 --   Cosets   what holds of the messages and words of every sound row
-use Rattle.std.specs.Prelude.{◌≡◌, ℕ, zero, suc, ◌+◌, ◌*◌, ◌/◌, ◌%◌, ◌^◌, ◌<◌}
+use Rattle.std.specs.Prelude.{◌≡◌, ℕ, suc, ◌+◌, ◌*◌, ◌/◌, ◌%◌, ◌^◌, ◌<◌}
 use Rattle.samples.specs.Transform.{parity}
 use Rattle.kerdock.specs.Code.{Row, size, messages, sum_to, digit, symbol, place}
 

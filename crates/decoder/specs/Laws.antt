@@ -4,13 +4,11 @@
 --   NearScores   rankings whose scores differ little have margins that differ little, and a large lead keeps the message
 --   TurnedScores turning receptions along a word moves each score to the sum of the messages
 --   Nearest      for complex samples a higher score is a smaller squared distance, at every amplitude from 1 up
-use Rattle.std.specs.Prelude.{◌≡◌, ℕ, ◌+◌, ◌*◌, ◌<◌, ◌≤◌, List, [], ℤ, pos, ◌+ℤ◌, ◌*ℤ◌, ◌≤ℤ◌}
+use Rattle.std.specs.Prelude.{◌≡◌, ℕ, ◌+◌, ◌*◌, ◌<◌, ◌≤◌, List, ℤ, pos, ◌+ℤ◌, ◌*ℤ◌, ◌≤ℤ◌}
 use Rattle.std.specs.List.{AllZip, AllByRecursion as All}
-use Rattle.samples.specs.Meaning.{Meaning}
-use Rattle.kerdock.specs.Code.{Row, size, messages, symbol, sum_of}
-use Rattle.kerdock.specs.Sound.{Sound}
+use Rattle.kerdock.specs.Code.{Row, size, messages, sum_of}
 use Rattle.decoder.specs.Scores.{Reception, score, scores, Added, Turned, IsComplex, distances}
-use Rattle.decoder.specs.Ranking.{OtherWord, Ranking, Leads}
+use Rattle.decoder.specs.Ranking.{Ranking, Leads}
 
 pub record ScoresAdd (row : Row) : Type 0 where
   pub one : (rs : List Reception) (x : Reception) → Added (size row) rs x → (m : ℕ) → score row x m ≡ scores row rs m

@@ -3,8 +3,7 @@
 --   Fits      the degree is known, and both lists are N long
 --   Found     the ranking of the sums' scores, and the leader's score
 --   Searched  what goes with an answer, and what is left in the work memory
-use Rattle.std.specs.Prelude.{◌≡◌, ℕ, ◌<◌, T, List, map, length, ℤ, Some, None, Option, slice_index_or}
-use Rattle.samples.specs.Meaning.{Meaning}
+use Rattle.std.specs.Prelude.{◌≡◌, ℕ, ◌<◌, T, List, map, length, Some, None, Option, slice_index_or}
 use Rattle.samples.specs.Sizes.{Within}
 use Rattle.samples.specs.Transform.{loudest}
 use Rattle.samples.specs.declared.sample.Sample.{Ghosts}

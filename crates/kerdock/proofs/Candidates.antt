@@ -1,5 +1,5 @@
 -- The message of a word, read off the indices whose places are single bits.
-use Rattle.std.proofs.Common.{◌≡◌, ℕ, zero, suc, ◌+◌, ◌-◌, ◌*◌, ◌/◌, ◌%◌, ◌^◌, ◌<◌, ◌≤◌, List, length, get_or, sym, refl, ap, ◌∙◌, ap₂, mod-lt, mod-eq_of_lt, zero-mul, mul-add, mul_left_comm, arith, pow_pos}
+use Rattle.std.proofs.Common.{◌≡◌, ℕ, zero, suc, ◌+◌, ◌-◌, ◌*◌, ◌/◌, ◌%◌, ◌^◌, ◌<◌, List, get_or, sym, refl, ap, ◌∙◌, ap₂, mod-lt, mod-eq_of_lt, zero-mul, mul-add, mul_left_comm, arith, pow_pos}
 use native.Mathlib.Nat.{div-eq_of_lt, pow-succ', one-le-pow}
 use Rattle.kerdock.specs.Code.{Row, size, messages, t, sum_to, digit, symbol, place}
 use Rattle.kerdock.specs.Sound.{Sound}

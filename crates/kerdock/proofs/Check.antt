@@ -1,5 +1,5 @@
 -- One test of a row, which the checker computes from tables of the row's powers, traces and places.
-use Rattle.std.proofs.Common.{ℕ, zero, suc, ◌+◌, ◌*◌, ◌%◌, ◌^◌, Bool, true, false, eqb, ltb, List, [], ◌∷◌, length, get_or}
+use Rattle.std.proofs.Common.{ℕ, suc, ◌+◌, ◌*◌, ◌%◌, ◌^◌, Bool, true, false, eqb, ltb, List, [], ◌∷◌, length, get_or}
 use Rattle.kerdock.specs.Ring.{zeros, number, plus, times_root, power, total, combination}
 use Rattle.kerdock.specs.Code.{Row, size, period, sum_to, listed}
 use Rattle.kerdock.proofs.Tests.{both, all, same, all_small, upto}

@@ -4,9 +4,9 @@
 --   plus, scaled  the laws of sums and multiples
 --   combination   it is linear in its coefficients and in its family
 --   number        sums, multiples and combinations of numbers
-use Rattle.std.proofs.Common.{◌≡◌, ℕ, zero, suc, ◌+◌, ◌*◌, ◌/◌, ◌%◌, ◌<◌, List, [], ◌∷◌, length, get_or, sym, refl, ap, ◌∙◌, ap₂, not-suc-le-zero, add-zero, add-suc, mul_assoc, mul_comm, add-mul, mul-add, arith}
-use native.Mathlib.Nat.{mod-add-div, add-mod}
-use Rattle.kerdock.specs.Ring.{iterate, zeros, number, plus, scaled, raised, power, total, combination}
+use Rattle.std.proofs.Common.{◌≡◌, ℕ, zero, suc, ◌+◌, ◌*◌, ◌%◌, ◌<◌, List, [], ◌∷◌, length, get_or, sym, refl, ap, ◌∙◌, ap₂, not-suc-le-zero, mul_assoc, mul_comm, add-mul, mul-add, arith}
+use native.Mathlib.Nat.{add-mod}
+use Rattle.kerdock.specs.Ring.{zeros, number, plus, scaled, raised, power, total, combination}
 use Rattle.kerdock.specs.Code.{sum_to, listed}
 use Rattle.kerdock.proofs.Sums.{sum_front, mod_times}
 

@@ -1,11 +1,10 @@
 -- What encoding writes, reading back reads, and no other message has.
-use Rattle.std.proofs.Common.{◌≡◌, ℕ, zero, suc, ◌+◌, ◌*◌, ◌%◌, ◌^◌, ◌<◌, ◌≤◌, Bool, true, false, cond, T, eqb, ltb, List, length, get_or, Ok, Err, Result, sym, refl, ap, ◌∙◌, subst, arith, lt→ltb, ext_get_or}
+use Rattle.std.proofs.Common.{◌≡◌, ℕ, ◌<◌, ◌≤◌, Bool, true, false, cond, T, eqb, ltb, List, length, get_or, Ok, Err, sym, refl, ap, ◌∙◌, subst, arith, lt→ltb, ext_get_or}
 use lib.Dec.{eqb_refl}
-use Rattle.kerdock.specs.Code.{Row, size, messages, symbol, sum_of}
+use Rattle.kerdock.specs.Code.{Row, size, messages, sum_of}
 use Rattle.kerdock.specs.Table.{row_of, known}
 use Rattle.kerdock.specs.Sound.{Sound}
-use Rattle.kerdock.specs.Calls.{Spells, encodes, Written, FirstAbove, Refused, ReadBack, ComesBack, WrittenAgain, adds}
-use Rattle.kerdock.specs.declared.refusals.Refusal.{Refusal}
+use Rattle.kerdock.specs.Calls.{Spells, encodes, Written, ComesBack, WrittenAgain, adds}
 use Rattle.kerdock.specs.declared.refusals.Refusal.TheVariants.{Degree, Message, Memory, Symbol, NoWord}
 use Rattle.kerdock.proofs.RowFacts.{known_sound}
 use Rattle.kerdock.proofs.Words.{words}

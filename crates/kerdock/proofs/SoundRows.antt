@@ -1,13 +1,13 @@
 -- A row that passes the test is sound; so is every row of the table.
-use Rattle.std.proofs.Common.{◌≡◌, ℕ, zero, suc, ◌+◌, ◌-◌, ◌*◌, ◌/◌, ◌%◌, ◌^◌, ◌<◌, ◌≤◌, Bool, true, false, T, eqb, ltb, ◌⊎◌, List, [], ◌∷◌, length, get_or, sym, refl, ap, ◌∙◌, subst, inl, inr, mod-lt, add-mul, mul_right_comm, arith, eqb→eq, ltb→lt}
+use Rattle.std.proofs.Common.{◌≡◌, ℕ, zero, suc, ◌+◌, ◌*◌, ◌/◌, ◌%◌, ◌^◌, ◌<◌, true, T, eqb, List, [], ◌∷◌, length, get_or, sym, refl, ap, ◌∙◌, subst, inl, inr, mod-lt, add-mul, mul_right_comm, arith, eqb→eq, ltb→lt}
 use mathlib.Core.Path.{fun_ext}
 use native.Mathlib.Nat.{mod-add-div', mod-add-mod, add-mod_right, add-mod}
 use Rattle.kerdock.specs.Ring.{zeros, number, plus, times_root, power, total, combination, frobenius}
-use Rattle.kerdock.specs.Code.{Row, size, period, ring_trace, t, sum_to, place, listed}
+use Rattle.kerdock.specs.Code.{Row, size, period, ring_trace, t, sum_to, place}
 use Rattle.kerdock.specs.Table.{Among, rows}
 use Rattle.kerdock.specs.Sound.{Sound}
-use Rattle.kerdock.proofs.Tests.{left, right, all, passed, same, same→eq, small_at, upto, upto_at}
-use Rattle.kerdock.proofs.Iterate.{iterate_mod, iterate_rounds, orbit, orbit_at, listed_at}
+use Rattle.kerdock.proofs.Tests.{left, right, all, passed, same→eq, small_at, upto_at}
+use Rattle.kerdock.proofs.Iterate.{iterate_mod, iterate_rounds, orbit_at, listed_at}
 use Rattle.kerdock.proofs.Sums.{sum_same}
 use Rattle.kerdock.proofs.Check.{powers, tabled, traces, round, places, seek, shapes, squares_at, trace_at, place_at, parts, checks, all_check}
 use Rattle.kerdock.proofs.Computed.{computed}

@@ -1,5 +1,5 @@
 -- Symbols and digits as the code works them out.
-use Rattle.std.proofs.Common.{◌≡◌, ℕ, zero, suc, ◌+◌, ◌-◌, ◌*◌, ◌/◌, ◌%◌, ◌^◌, ◌<◌, ◌≤◌, sym, refl, ap, ◌∙◌, mod-lt, pow-suc, div-one, add-one, arith}
+use Rattle.std.proofs.Common.{◌≡◌, ℕ, zero, suc, ◌+◌, ◌-◌, ◌*◌, ◌/◌, ◌%◌, ◌^◌, ◌<◌, sym, ap, ◌∙◌, pow-suc, div-one, add-one, arith}
 use native.Mathlib.Nat.{div-div-eq-div-mul}
 use Rattle.kerdock.specs.Code.{Row, t, sum_to, digit, symbol}
 

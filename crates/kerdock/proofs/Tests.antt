@@ -1,5 +1,5 @@
 -- Tests that the checker computes, and what a passed test says.
-use Rattle.std.proofs.Common.{◌≡◌, ℕ, zero, suc, ◌+◌, ◌<◌, Bool, true, false, T, eqb, ltb, ◌⊎◌, List, [], ◌∷◌, get_or, sym, refl, ap, subst, inl, inr, not-suc-le-zero, arith, eqb→eq, ltb→lt}
+use Rattle.std.proofs.Common.{◌≡◌, ℕ, zero, suc, ◌<◌, Bool, true, false, T, eqb, ltb, ◌⊎◌, List, [], ◌∷◌, get_or, sym, refl, subst, inl, inr, not-suc-le-zero, arith, eqb→eq, ltb→lt}
 
 abbrev pub both : Bool → Bool → Bool
 both true b = b

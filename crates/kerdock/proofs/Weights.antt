@@ -1,5 +1,5 @@
 -- Sums of digits to a base b, each times its weight, as loops build them.
-use Rattle.std.proofs.Common.{◌≡◌, ℕ, zero, suc, ◌+◌, ◌*◌, ◌^◌, ◌<◌, ◌≤◌, sym, ap, ◌∙◌, mul-le-mul_left, pow-suc, mul-one, mul-suc, add-one, arith}
+use Rattle.std.proofs.Common.{◌≡◌, ℕ, suc, ◌+◌, ◌*◌, ◌^◌, ◌<◌, ◌≤◌, sym, ap, ◌∙◌, mul-le-mul_left, pow-suc, mul-one, mul-suc, add-one, arith}
 use native.Mathlib.Nat.{pow-le-pow_right}
 
 -- what one more digit x of weight w, the k-th and not past the n-th, does to a number s of the digits below it

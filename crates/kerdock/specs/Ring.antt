@@ -8,7 +8,7 @@
 --   frobenius    the Frobenius map, which takes r to r ^ 2
 --   product      the product of two elements
 --   relative     the relative trace of an element: the sum over the powers of the Frobenius map
-use Rattle.std.specs.Prelude.{◌≡◌, ℕ, zero, suc, ◌+◌, ◌-◌, ◌*◌, ◌%◌, ◌^◌, List, [], ◌∷◌}
+use Rattle.std.specs.Prelude.{ℕ, zero, suc, ◌+◌, ◌-◌, ◌*◌, ◌%◌, List, [], ◌∷◌}
 
 -- f done k times, from x on
 abbrev pub iterate : {A : Type 0} → (A → A) → A → ℕ → A

@@ -1,7 +1,7 @@
 -- What is shown of every row of the table.
 --   Sound      the facts of one row that everything above the table rests on
 --   Published  the word by the relative trace in the ring, as the code is published
-use Rattle.std.specs.Prelude.{◌≡◌, ℕ, zero, suc, ◌+◌, ◌*◌, ◌%◌, ◌<◌, ◌≤◌, List, [], ◌∷◌, length, slice_index}
+use Rattle.std.specs.Prelude.{◌≡◌, ℕ, suc, ◌+◌, ◌*◌, ◌%◌, ◌<◌, ◌≤◌, length, slice_index}
 use Rattle.kerdock.specs.Ring.{zeros, number, plus, power, combination, frobenius, product, relative}
 use Rattle.kerdock.specs.Code.{Row, size, period, ring_trace, t, sum_to, digit, symbol, place, leader}
 

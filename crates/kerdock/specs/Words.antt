@@ -1,6 +1,6 @@
 -- Laws of the words of one row.
 --   Words  what holds of the words of every sound row
-use Rattle.std.specs.Prelude.{◌≡◌, ℕ, zero, suc, ◌+◌, ◌*◌, ◌/◌, ◌%◌, ◌^◌, ◌<◌}
+use Rattle.std.specs.Prelude.{◌≡◌, ℕ, suc, ◌+◌, ◌*◌, ◌/◌, ◌%◌, ◌^◌, ◌<◌}
 use Rattle.kerdock.specs.Code.{Row, size, messages, digit, symbol, place, sum_of}
 
 pub record Words (row : Row) : Type 0 where

@@ -1,10 +1,10 @@
 -- What is picked whole and written again is the same bytes.
-use Rattle.std.proofs.Common.{◌≡◌, ℕ, zero, suc, ◌+◌, ◌-◌, ◌*◌, ◌/◌, ◌%◌, ◌^◌, ◌<◌, ◌≤◌, ◌⊎◌, List, length, get_or, take, ℤ, nat_abs, Ok, Err, Result, sym, refl, ap, ◌∙◌, subst, inl, inr, ⊎_elim, div-add-mod', arith}
+use Rattle.std.proofs.Common.{◌≡◌, ℕ, zero, suc, ◌+◌, ◌-◌, ◌*◌, ◌/◌, ◌%◌, ◌<◌, ◌≤◌, ◌⊎◌, List, length, get_or, take, ℤ, nat_abs, Ok, Err, Result, sym, refl, ap, ◌∙◌, subst, inl, inr, ⊎_elim, div-add-mod', arith}
 use Rattle.std.proofs.lemmas.Nat.{div_below, mod_below, pow_pos}
 use Rattle.std.proofs.lemmas.List.{ext_get_or}
 use Rattle.std.proofs.lemmas.Bool.{cases_eq, cases_lt}
 use Rattle.samples.specs.declared.sample.Sample.{Ghosts}
-use Rattle.reception_file.specs.Layout.{at, GoodDegree, samples_of, parts_of, total, size, place_of, raw, part_at, allowed, head_bytes, Lays}
+use Rattle.reception_file.specs.Layout.{at, GoodDegree, samples_of, parts_of, total, place_of, raw, part_at, head_bytes, Lays}
 use Rattle.reception_file.specs.Check.{Accepted, total_at}
 use Rattle.reception_file.specs.Pick.{sample_at, Picked}
 use Rattle.reception_file.specs.Write.{part_of, Written, Unwritten, Writes}
@@ -12,7 +12,7 @@ use Rattle.reception_file.specs.Laws.{reception_of, WrittenAgain}
 use Rattle.reception_file.specs.declared.refusal.Refusal.{Refusal}
 use Rattle.reception_file.specs.declared.refusal.Refusal.TheVariants.{Memory, Short, Mark, Version, Kind, Degree, Count, Length, Part, Reception, Room}
 use Rattle.reception_file.specs.declared.stored.Stored.{Ghosts as StoredGhosts}
-use Rattle.reception_file.proofs.Places.{part_at_sample, sample_in, reception_long}
+use Rattle.reception_file.proofs.Places.{sample_in, reception_long}
 use Rattle.reception_file.proofs.TwoBytes.{high_again, low_again}
 use Rattle.reception_file.proofs.Accepting as accepting
 

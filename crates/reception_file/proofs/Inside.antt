@@ -1,7 +1,6 @@
 -- A reception of a file lies inside it.
 use Rattle.std.proofs.Common.{◌≡◌, ℕ, ◌+◌, ◌*◌, ◌<◌, ◌≤◌, List, length, nat_abs, sym, ap, ◌∙◌, subst, mul-le-mul_right, add-mul, one-mul, arith}
 use lib.Arith.{digits_lt}
-use Rattle.samples.specs.Sizes.{Within}
 use Rattle.samples.specs.declared.sample.Sample.{Ghosts}
 use Rattle.reception_file.specs.Layout.{at, samples_of, parts_of, place_of, part_at, allowed}
 use Rattle.reception_file.specs.Check.{Exact, Accepted, total_at}

@@ -1,8 +1,8 @@
 -- One part more is written, and what a file is once all are.
-use Rattle.std.proofs.Common.{◌≡◌, ℕ, ◌+◌, ◌*◌, ◌/◌, ◌%◌, ◌<◌, ◌≤◌, ◌≢◌, List, ◌++◌, length, get_or, take, drop, set, ℤ, sym, refl, ap, ◌∙◌, subst, arith, below_more}
+use Rattle.std.proofs.Common.{◌≡◌, ℕ, ◌+◌, ◌*◌, ◌/◌, ◌%◌, ◌<◌, ◌≤◌, ◌≢◌, List, ◌++◌, length, take, drop, set, ℤ, sym, refl, ap, ◌∙◌, subst, arith, below_more}
 use Rattle.std.proofs.lemmas.List.{length-set, length-take-le, get_or-set_same, get_or-set_other, get_or-take, take-take, take-set-le, drop-set-lt, drop-drop, length-append, length-drop}
 use lib.Seq.{drop-append-add}
-use Rattle.reception_file.specs.Layout.{at, total, size, place_of, raw, head_bytes, Lays}
+use Rattle.reception_file.specs.Layout.{at, total, place_of, raw, head_bytes, Lays}
 use Rattle.reception_file.specs.Partly.{Laid}
 
 pub none : (part : ℕ → ℤ) (bs : List ℕ) → Laid part 0 bs bs

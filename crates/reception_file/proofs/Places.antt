@@ -1,10 +1,8 @@
 -- Part k of sample s is part s × width + k of all.
-use Rattle.std.proofs.Common.{◌≡◌, ℕ, ◌+◌, ◌*◌, ◌/◌, ◌%◌, ◌<◌, ◌≤◌, List, length, get_or, take, drop, sym, ap, ◌∙◌, div-add-mod', arith}
+use Rattle.std.proofs.Common.{◌≡◌, ℕ, ◌+◌, ◌*◌, ◌%◌, ◌<◌, List, length, drop, ap, ◌∙◌, arith}
 use lib.Arith.{digits_div, digits_mod}
-use Rattle.std.proofs.lemmas.Nat.{div_below, mod_below}
 use Rattle.std.proofs.lemmas.List.{length-take-le, length-drop, get_or-take, get_or-drop}
 use Rattle.samples.specs.declared.sample.Sample.{Ghosts}
-use Rattle.reception_file.specs.Layout.{GoodKind, parts_of}
 use Rattle.reception_file.specs.Pick.{sample_at}
 use Rattle.reception_file.specs.Write.{part_of}
 use Rattle.reception_file.specs.Laws.{reception_of}

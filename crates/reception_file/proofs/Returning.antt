@@ -1,9 +1,9 @@
 -- What is written comes back.
-use Rattle.std.proofs.Common.{◌≡◌, ℕ, ◌+◌, ◌*◌, ◌<◌, ◌≤◌, List, length, get_or, Ok, Err, Result, sym, ap, ◌∙◌, subst, ⊎_elim, arith}
+use Rattle.std.proofs.Common.{◌≡◌, ℕ, ◌+◌, ◌*◌, ◌<◌, List, length, Ok, Err, Result, sym, ap, ◌∙◌, ⊎_elim, arith}
 use lib.Arith.{digits_lt}
 use Rattle.std.proofs.lemmas.List.{ext_get_or}
 use Rattle.samples.specs.declared.sample.Sample.{Ghosts}
-use Rattle.reception_file.specs.Layout.{at, samples_of, parts_of, total, part_at, Lays}
+use Rattle.reception_file.specs.Layout.{at, samples_of, total, part_at, Lays}
 use Rattle.reception_file.specs.Check.{Accepted, Checked}
 use Rattle.reception_file.specs.Pick.{sample_at, Picked, Unfit, Picks}
 use Rattle.reception_file.specs.Write.{part_of, Due}

@@ -1,5 +1,5 @@
 -- One step more of the loops that read samples.
-use Rattle.std.proofs.Common.{◌≡◌, ℕ, ◌+◌, ◌*◌, ◌<◌, ◌≤◌, ◌≢◌, List, length, set, ℤ, sym, ap, ◌∙◌, mul-le-mul_right, add-mul, one-mul, arith, get_or-set_other, get_or-set_same, below_more}
+use Rattle.std.proofs.Common.{◌≡◌, ℕ, ◌+◌, ◌<◌, ◌≢◌, List, length, set, ℤ, ap, ◌∙◌, arith, get_or-set_other, get_or-set_same, below_more}
 use Rattle.samples.specs.declared.sample.Sample.{Ghosts}
 use Rattle.reception_file.specs.Pick.{sample_at}
 use Rattle.reception_file.specs.declared.stored.Stored.{Ghosts as StoredGhosts}

@@ -1,7 +1,7 @@
 -- A part and its two bytes, to and fro.
-use Rattle.std.proofs.Common.{◌≡◌, ℕ, ◌+◌, ◌-◌, ◌*◌, ◌/◌, ◌%◌, ◌<◌, ◌≤◌, ltb, ℤ, pos, negsuc, nat_abs, sym, ap, ◌∙◌, arith}
+use Rattle.std.proofs.Common.{◌≡◌, ℕ, ◌+◌, ◌-◌, ◌*◌, ◌/◌, ◌%◌, ◌<◌, ◌≤◌, ltb, ℤ, pos, negsuc, nat_abs, ap, ◌∙◌, arith}
 use native.Mathlib.Nat.{div-add-mod}
-use Rattle.std.proofs.lemmas.Bool.{cond-true, cond-false, lt-ltb, le-ltb, cond_both, ltb-true, ltb-false}
+use Rattle.std.proofs.lemmas.Bool.{cond-true, cond-false, lt-ltb, le-ltb, cond_both, ltb-false}
 use Rattle.reception_file.specs.Layout.{raw, signed, allowed}
 
 signed_raw : (z : ℤ) → nat_abs z ≤ allowed → signed (raw z) ≡ z

@@ -1,4 +1,4 @@
-use Rattle.std.proofs.Common.{◌≡◌, ℕ, ◌+◌, ◌*◌, ◌<◌, ◌≤◌, ℤ, ◌≤ℤ◌, sym, ap, ◌∙◌, subst, ap₂, mod-lt, add-mul, one-mul, arith, to_z-of_z, w32, SFits, rules}
+use Rattle.std.proofs.Common.{◌≡◌, ℕ, ◌+◌, ◌*◌, ◌<◌, ◌≤◌, ◌≤ℤ◌, sym, ap, ◌∙◌, subst, ap₂, mod-lt, add-mul, one-mul, arith, to_z-of_z, w32, SFits, rules}
 use borrow.Author.Rules.{get_or_read}
 use Rattle.samples.specs.Meaning.{reads}
 use Rattle.samples.specs.Kind.{limit}

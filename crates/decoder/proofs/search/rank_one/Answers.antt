@@ -1,7 +1,6 @@
-use Rattle.std.proofs.Common.{◌≡◌, ℕ, ◌-◌, ◌*◌, ◌%◌, ◌^◌, ◌≤◌, T, length, get_or, ap, ◌∙◌, ap₂, arith, pow_mono, rules}
+use Rattle.std.proofs.Common.{◌≡◌, ℕ, ◌-◌, ◌%◌, ◌^◌, ◌≤◌, T, length, get_or, ap, ◌∙◌, ap₂, arith, pow_mono}
 use Rattle.samples.specs.Transform.{loudest, Transformed}
-use Rattle.kerdock.specs.Code.{Row, size, symbol, place}
-use Rattle.decoder.specs.Cosets.{message}
+use Rattle.kerdock.specs.Code.{size, place}
 use Rattle.decoder.specs.Scores.{score}
 use Rattle.decoder.specs.Search.{meanings}
 use Rattle.decoder.specs.Visits.{Turnback, times}

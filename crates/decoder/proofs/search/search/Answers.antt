@@ -1,6 +1,4 @@
-use Rattle.std.proofs.Common.{◌≡◌, ℕ, zero, ◌+◌, ◌*◌, ◌^◌, ◌<◌, ◌≤◌, length, get_or, sym, ap, ◌∙◌, subst, zero-mul, arith}
-use Rattle.samples.specs.Sizes.{Within}
-use Rattle.samples.specs.Transform.{loudest}
+use Rattle.std.proofs.Common.{◌≡◌, ℕ, ◌+◌, ◌*◌, ◌<◌, get_or, sym, ap, ◌∙◌, subst, zero-mul, arith}
 use Rattle.kerdock.specs.Code.{size, messages, symbol, place}
 use Rattle.kerdock.specs.Table.{row_of}
 use Rattle.decoder.specs.Cosets.{message}

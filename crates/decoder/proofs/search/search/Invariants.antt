@@ -1,4 +1,4 @@
-use Rattle.std.proofs.Common.{◌≡◌, ℕ, ◌*◌, ◌<◌, length}
+use Rattle.std.proofs.Common.{◌*◌}
 use Rattle.samples.specs.Sizes.{Within}
 use Rattle.samples.specs.Transform.{loudest}
 use Rattle.kerdock.specs.Code.{messages, size}

@@ -1,4 +1,4 @@
-use Rattle.std.proofs.Common.{◌≡◌, ℕ, suc, ◌+◌, ◌*◌, ◌%◌, ◌^◌, ◌<◌, ◌≤◌, ap, ◌∙◌, ap₂, mod-lt, arith}
+use Rattle.std.proofs.Common.{◌≡◌, ℕ, ◌+◌, ◌*◌, ◌%◌, ◌^◌, ap, ◌∙◌, ap₂, mod-lt, arith}
 use Rattle.kerdock.specs.Code.{t, sum_to, place}
 use Rattle.kerdock.specs.Table.{row_of}
 use Rattle.kerdock.proofs.Sums.{sum_step}

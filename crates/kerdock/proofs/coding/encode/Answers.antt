@@ -1,4 +1,4 @@
-use Rattle.std.proofs.Common.{◌≡◌, ℕ, ◌*◌, ◌<◌, T, length, sym, ap, ◌∙◌, subst, arith}
+use Rattle.std.proofs.Common.{◌≡◌, ℕ, ◌*◌, ◌<◌, T, length, sym, subst, arith}
 use Rattle.kerdock.specs.Code.{messages, size}
 use Rattle.kerdock.specs.Table.{row_of, known}
 use Rattle.kerdock.specs.Calls.{Spells}

@@ -1,4 +1,4 @@
-use Rattle.std.proofs.Common.{◌≡◌, ℕ, suc, ◌+◌, ◌-◌, ◌*◌, ◌/◌, ◌%◌, ◌^◌, ◌<◌, ◌≤◌, refl, ap, ◌∙◌, ap₂, mod-lt, add-one, arith}
+use Rattle.std.proofs.Common.{◌≡◌, ℕ, suc, ◌+◌, ◌-◌, ◌*◌, ◌/◌, ◌%◌, ◌^◌, ◌≤◌, refl, ap, ◌∙◌, ap₂, mod-lt, add-one, arith}
 use Rattle.kerdock.specs.Code.{t, sum_to, digit}
 use Rattle.kerdock.specs.Table.{row_of}
 use Rattle.kerdock.proofs.Sums.{sum_step}

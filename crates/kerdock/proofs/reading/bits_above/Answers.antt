@@ -1,6 +1,6 @@
 use Rattle.std.proofs.Common.{◌≡◌, ℕ, suc, ◌+◌, ◌-◌, ◌*◌, ◌/◌, ◌%◌, ◌^◌, ◌<◌, ◌≤◌, get_or, ap, ◌∙◌, subst, ap₂, mod-lt, suc-add, arith, pow_pos}
 use lib.Pow.{pow-lt}
-use Rattle.kerdock.specs.Code.{size, symbol, sum_to}
+use Rattle.kerdock.specs.Code.{sum_to}
 use Rattle.kerdock.specs.Table.{row_of}
 use Rattle.kerdock.proofs.RowFacts.{row_facts}
 use Rattle.kerdock.proofs.Sums.{sum_step}

@@ -1,4 +1,4 @@
-use Rattle.std.proofs.Common.{◌≡◌, ◌∙◌, arith}
+use Rattle.std.proofs.Common.{◌∙◌, arith}
 use Rattle.kerdock.proofs.RowFacts.{row_facts}
 use Rattle.kerdock.proofs.reading.index_of.Goals as goal
 

@@ -1,4 +1,4 @@
-use Rattle.std.proofs.Common.{T, refl, arith}
+use Rattle.std.proofs.Common.{refl, arith}
 use Rattle.std.proofs.lemmas.Bool.Decides.{nat_tests}
 use Rattle.kerdock.specs.Table.{known, row_of}
 use Rattle.kerdock.proofs.rows.row_of.Goals as goal

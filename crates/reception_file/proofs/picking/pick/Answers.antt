@@ -1,4 +1,4 @@
-use Rattle.std.proofs.Common.{◌≡◌, sym, ap, ◌∙◌, arith, rules}
+use Rattle.std.proofs.Common.{sym, ap, ◌∙◌, arith, rules}
 use Rattle.reception_file.specs.Layout.{samples_of}
 use Rattle.reception_file.proofs.Inside.{inside, picked}
 use Rattle.reception_file.proofs.Again.{written_again}

@@ -1,4 +1,4 @@
-use Rattle.std.proofs.Common.{◌+◌, ◌*◌, sym, ap, ◌∙◌, subst, arith}
+use Rattle.std.proofs.Common.{◌+◌, ◌*◌, ap, ◌∙◌, arith}
 use Rattle.reception_file.specs.Layout.{part_at}
 use Rattle.reception_file.proofs.Steps.{one_more_sample}
 use Rattle.reception_file.proofs.picking.read_samples.Goals as goal

@@ -1,4 +1,4 @@
-use Rattle.std.proofs.Common.{◌≡◌, ◌∙◌, arith, w32, SFits, rules}
+use Rattle.std.proofs.Common.{◌∙◌, arith, w32, SFits, rules}
 use Rattle.std.proofs.lemmas.Int.{to_z-of_z}
 use Rattle.reception_file.specs.Write.{part_of}
 use Rattle.reception_file.proofs.Laying.{one_more}
