@@ -69,7 +69,7 @@ when_none true n e = let z : ◌≡◌ {A = ℕ} 0 1 = cc in absurd (omega arith
 when_none false n e = refl
 
 -- what is not false is true
-not_off : (c : Bool) → not c ≡ false → c ≡ true
+pub not_off : (c : Bool) → not c ≡ false → c ≡ true
 not_off true e = refl
 not_off false e = sym e
 

@@ -7,7 +7,7 @@ use Rattle.bay.specs.Rules.{Opening, shut}
 use Rattle.bay.specs.Steps.{Opens, Zeroed}
 
 -- a length that is answered is that of a degree which the table knows
-some_length : (t : Bool) (k n : ℕ) → Some k ≡ cond t (Some n) None → (t ≡ true) × (k ≡ n)
+pub some_length : (t : Bool) (k n : ℕ) → Some k ≡ cond t (Some n) None → (t ≡ true) × (k ≡ n)
 some_length true k n e = (refl, cc)
 some_length false k n e = let z : ◌≡◌ {A = ℕ} 0 1 = cc in absurd (omega arith)
 

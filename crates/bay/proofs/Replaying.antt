@@ -10,7 +10,7 @@ use Rattle.bay.proofs.Deciding.{decided}
 use Rattle.bay.proofs.Whole.{chosen}
 
 -- runs of equal answers are equal
-made_same : (ds : ℕ → Dealing) (ans bs : ℕ → Answer) (n : ℕ) → ((i : ℕ) → i < n → ans i ≡ bs i) → made ds ans n ≡ made ds bs n
+pub made_same : (ds : ℕ → Dealing) (ans bs : ℕ → Answer) (n : ℕ) → ((i : ℕ) → i < n → ans i ≡ bs i) → made ds ans n ≡ made ds bs n
 made_same ds ans bs zero e = refl
 made_same ds ans bs (suc n) e =
     ap₂ (λ (h : Run) (a : Answer). Then h (ds n) a) (made_same ds ans bs n (λ i lt. e i (omega arith))) (e n (omega arith))

@@ -10,7 +10,7 @@
 --   Law           all of this, for all lawful runs
 --   Chooses       all of this, at one verdict, against every other
 use Rattle.std.specs.Prelude.{◌≡◌, ℕ, ◌+◌, ◌*◌, ◌<◌, ◌≤◌, List, ◌∷◌, ◌≤ℤ◌}
-use Rattle.std.specs.List.{AllZip, AllByRecursion as All}
+use Rattle.std.specs.List.{AllZip, AllByRecursion}
 use Rattle.std.specs.List.Sorted.{IsPermutation}
 use Rattle.kerdock.specs.Code.{Row, size, messages, sum_of}
 use Rattle.kerdock.specs.Table.{row_of}
@@ -29,7 +29,7 @@ HeldTurned row u rs ts = (qs : List Reception) × IsPermutation rs qs × AllZip 
 
 -- ts are the receptions rs and r, in any order, and no sample of r has a size above s
 abbrev pub HeldAndOne : Reception → ℕ → List Reception → List Reception → Type 0
-HeldAndOne r s rs ts = All (λ x. x.size ≤ s) r × IsPermutation (r ∷ rs) ts
+HeldAndOne r s rs ts = AllByRecursion (λ x. x.size ≤ s) r × IsPermutation (r ∷ rs) ts
 
 -- No word of the degree scores higher over what is held, on equal scores no message is smaller, and the verdict gives the
 -- number held, the score, and the margin over the best other word.
@@ -40,7 +40,7 @@ Best o h v = Delivers o.degree (holds h) v
 abbrev pub Nearest : Opening → Run → Verdict → Type 0
 Nearest o h v =
     let row : Row = row_of o.degree in
-    All (All IsComplex) (holds h) → (g : ℕ) → 1 ≤ g → (k : ℕ) → k < messages row →
+    AllByRecursion (AllByRecursion IsComplex) (holds h) → (g : ℕ) → 1 ≤ g → (k : ℕ) → k < messages row →
     distances row g (holds h) v.message ≤ℤ distances row g (holds h) k
 
 -- Where the second run holds the first's receptions, in any order and all turned forward along the word of u, the scores are

@@ -1,5 +1,5 @@
 -- Samples of a kind, by their meanings.
-use Rattle.std.proofs.Common.{◌≡◌, ℕ, zero, suc, ◌+◌, ◌<◌, ◌≤◌, leb, List, [], ◌∷◌, length, get_or, Some, None, sym, refl, ap, ◌∙◌, arith, le-leb}
+use Rattle.std.proofs.Common.{◌≡◌, ℕ, zero, suc, ◌+◌, ◌<◌, ◌≤◌, List, [], ◌∷◌, length, get_or, Some, None, sym, refl, ap, ◌∙◌, arith, le-leb}
 use lib.ListN.{length-map}
 use borrow.Author.Tests.{lt-leb}
 use Rattle.std.proofs.lemmas.List.{get_or-map}
@@ -7,8 +7,8 @@ use Rattle.samples.specs.Meaning.{silence}
 use Rattle.samples.specs.Sizes.{FirstAbove, size_at}
 use Rattle.samples.specs.declared.sample.Sample.{Ghosts}
 use Rattle.decoder.specs.Search.{meanings, Zeros}
-use Rattle.bay_rules.specs.Rules.{deny, too_large}
-use Rattle.bay_rules.specs.Steps.{Adds, Zeroed}
+use Rattle.bay.specs.Rules.{deny, too_large}
+use Rattle.bay.specs.Steps.{Adds, Zeroed}
 use Rattle.bay_calls.specs.Sums.{Summed}
 
 module _ {S : Type 0} (m : Ghosts S) where

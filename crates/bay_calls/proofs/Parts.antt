@@ -1,19 +1,19 @@
 -- The first samples of a work memory, wiped or left as they were, in the whole of it.
-use Rattle.std.proofs.Common.{◌≡◌, ℕ, ◌+◌, ◌-◌, ◌<◌, ◌≤◌, List, ◌++◌, length, get_or, take, drop, Some, None, Ok, Err, Result, sym, refl, ap, ◌∙◌, subst, arith, length-append, length-drop, take-append-drop, length-take-le, get_or-drop, eqb-true}
+use Rattle.std.proofs.Common.{◌≡◌, ℕ, ◌+◌, ◌-◌, ◌≤◌, List, ◌++◌, length, get_or, take, drop, Some, None, Ok, Err, Result, refl, ap, ◌∙◌, subst, arith, length-append, length-drop, take-append-drop, length-take-le, get_or-drop, eqb-true}
 use Rattle.std.proofs.lemmas.List.{get_or_append_left, get_or-append_right}
 use Rattle.samples.specs.declared.sample.Sample.{Ghosts}
 use Rattle.decoder.specs.Search.{Zeros}
 use Rattle.bay_calls.specs.declared.bays.Bay.{Bay}
 use Rattle.bay_rules.specs.declared.denial.Denial.{Denial}
 use Rattle.bay_calls.specs.declared.verdict.Verdict.{Verdict as Token}
-use Rattle.bay_rules.specs.Rules.{Verdict}
-use Rattle.bay_rules.specs.Rules.Answer.{Delivered}
-use Rattle.bay_rules.specs.Rules.Dealing.{Decide}
+use Rattle.bay.specs.Rules.{Verdict}
+use Rattle.bay.specs.Rules.Answer.{Delivered}
+use Rattle.bay.specs.Rules.Dealing.{Decide}
 use Rattle.bay_rules.specs.Lived.{State}
 use Rattle.bay_rules.specs.Steps.{Steps, Ends, refusal, refusals}
 use Rattle.bay_calls.specs.Seen.{five, state, delivered, IfDone, IfDenied, Worked}
 use Rattle.bay_calls.specs.Played.{Wiped}
-use Rattle.bay_rules.proofs.Denials.{each_none, when_none, not_off}
+use Rattle.bay.proofs.Denials.{each_none, when_none, not_off}
 use Rattle.bay_calls.proofs.Means.{as_many}
 
 module _ {S : Type 0} (m : Ghosts S) (n : ℕ) (xs : List S) (fits : n ≤ length xs) where

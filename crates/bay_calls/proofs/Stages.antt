@@ -10,8 +10,8 @@ use Rattle.bay_calls.specs.declared.standing.Standing.{Standing}
 use Rattle.bay_calls.specs.declared.standing.Stage.{Stage}
 use Rattle.bay_calls.specs.declared.standing.Stage.TheVariants.{Shut, Gathering, Waiting}
 use Rattle.decoder.specs.Scores.{Reception}
-use Rattle.bay_rules.specs.Rules.{Dealing, fits}
-use Rattle.bay_rules.specs.Rules.Answer.{Denied}
+use Rattle.bay.specs.Rules.{Dealing, fits}
+use Rattle.bay.specs.Rules.Answer.{Denied}
 use Rattle.bay_rules.specs.Lived.{State}
 use Rattle.bay_rules.specs.Steps.{Steps, Leaves}
 use Rattle.bay_calls.specs.Sums.{emptied}
@@ -30,25 +30,27 @@ only_gathering f shut out (Waiting v) x e = let q = out v in let z : ◌≡◌ {
 pub gathers : {S : Type 0} (m : Ghosts S) (r : Standing) (book : CodeBook) (xs : List S) → r.stage ≡ Gathering → Gathers (seen m r book xs)
 gathers m r book xs e = record { up = ap closes e; none = ap notes e }
 
-let-in : (t : Bool) (x : Unit {0}) → Ok x ≡ cond t (Ok tt) (Err Misfit) → t ≡ true
-let-in true x e = refl
-let-in false x e = let z : ◌≡◌ {A = ℕ} 0 1 = cc in absurd (omega arith)
+let_in : (t : Bool) (x : Unit {0}) → Ok x ≡ cond t (Ok tt) (Err Misfit) → t ≡ true
+let_in true x e = refl
+let_in false x e = let z : ◌≡◌ {A = ℕ} 0 1 = cc in absurd (omega arith)
 
 -- an answer is let in only where the bay waits for it
 pub only_fitting : (s : Stage) (n : Numbers) (x : Unit {0}) → Ok x ≡ admitted s (Answer n) → (closes s ≡ false) × (fits (five n) (notes s) ≡ true)
 only_fitting Shut n x e = let z : ◌≡◌ {A = ℕ} 0 1 = cc in absurd (omega arith)
 only_fitting Gathering n x e = let z : ◌≡◌ {A = ℕ} 0 1 = cc in absurd (omega arith)
-only_fitting (Waiting v) n x e = (refl, let-in _ x e)
+only_fitting (Waiting v) n x e = (refl, let_in _ x e)
 
 -- the plain numbers of a bay that was not shut, once it has let go of all that was held
 pub leaves_empty : {S : Type 0} (m : Ghosts S) (r r' : Standing) (book : CodeBook) (xs ys : List S) → closes r.stage ≡ false →
     r' ≡ emptied r → Leaves (seen m r book xs) (seen m r' book ys) 0 None
 leaves_empty m r r' book xs ys up e = record {
-  closed = ap (λ (s : Standing). closes s.stage) e ∙ sym up;
-  degree = ap (λ (s : Standing). s.degree) e;
+  plainly = record {
+    closed = ap (λ (s : Standing). closes s.stage) e ∙ sym up;
+    degree = ap (λ (s : Standing). s.degree) e;
+    held_is = ap (λ (s : Standing). s.held) e;
+    noted_is = ap (λ (s : Standing). notes s.stage) e;
+  };
   book = refl;
-  held_is = ap (λ (s : Standing). s.held) e;
-  noted_is = ap (λ (s : Standing). notes s.stage) e;
 }
 
 -- why an answer is not let in: the bay is shut, or the verdict does not fit

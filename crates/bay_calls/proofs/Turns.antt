@@ -1,5 +1,5 @@
 -- One dealing of a list more: the run that the bay has lived, the answers, the work memory, and the sums at the end.
-use Rattle.std.proofs.Common.{◌≡◌, ℕ, ◌+◌, ◌<◌, ◌≤◌, Bool, true, false, ltb, ◌≢◌, List, length, get_or, set, sym, refl, ap, ◌∙◌, subst, arith, length-set, get_or-set_other, get_or-set_same, ltb-false, ltb-true}
+use Rattle.std.proofs.Common.{◌≡◌, ℕ, ◌+◌, ◌<◌, ◌≤◌, true, false, ltb, ◌≢◌, List, length, get_or, set, sym, refl, ap, ◌∙◌, subst, arith, length-set, get_or-set_other, get_or-set_same, ltb-false, ltb-true}
 use Rattle.samples.specs.declared.sample.Sample.{Ghosts}
 use Rattle.kerdock.specs.Code.{size}
 use Rattle.kerdock.specs.Table.{row_of}
@@ -13,15 +13,15 @@ use Rattle.bay_calls.specs.declared.playing.Dealing.{Dealing as Listed}
 use Rattle.bay_calls.specs.declared.playing.Dealing.TheVariants.{Take}
 use Rattle.bay_calls.specs.declared.playing.Answer.{Answer as Written}
 use Rattle.bay_calls.specs.declared.playing.Answer.TheVariants.{Denied, Counted, Delivered, Message}
-use Rattle.bay_rules.specs.Rules.{Opening, Run, shut, holds}
-use Rattle.bay_rules.specs.Rules.Answer.{Denied as denying}
+use Rattle.bay.specs.Rules.{Opening, Run, shut, holds}
+use Rattle.bay.specs.Rules.Answer.{Denied as denying}
 use Rattle.bay_rules.specs.Lived.{Lived, Deals}
-use Rattle.bay_rules.specs.Replay.{made}
+use Rattle.bay.specs.Replay.{made}
 use Rattle.bay_calls.specs.Seen.{state, closes}
 use Rattle.bay_calls.specs.Played.{meant, told, handed, written, Beyond, IfNot, delivers, Wiped, WorkAfter, WorkLeft, SumsLeft}
 use Rattle.bay_calls.proofs.Means.{as_many}
 use Rattle.bay_rules.proofs.Replaying.{made_more}
-use Rattle.bay_rules.proofs.ShutRuns.{denied_by_one}
+use Rattle.bay.proofs.ShutRuns.{denied_by_one}
 
 -- an answer that denies by 1 is a denial
 is_denial : (a : Written) (P : Type 0) → told a ≡ denying 1 0 → IfNot a P → P
@@ -60,11 +60,11 @@ shut_stage (Waiting n) e = let z : ◌≡◌ {A = ℕ} 0 1 = cc in absurd (omega
 pub sums_left : {S : Type 0} (m : Ghosts S) (o : Opening) (h : Run) (xs ys : List S) (b b₀ : Bay S) → ys ≡ b.sums.now → Lived o h (state m b) →
     (shut o ≡ true → b ≡ b₀) → (b₀.standing.stage ≡ Shut → b₀.sums.now ≡ xs) → closes b₀.standing.stage ≡ shut o → SumsLeft m o h xs ys
 sums_left {S} m o h xs ys b b₀ e l same kept starts =
-    let up : shut o ≡ false → closes b.standing.stage ≡ false = λ u. l.closed ∙ u in
+    let up : shut o ≡ false → closes b.standing.stage ≡ false = λ u. l.plainly.closed ∙ u in
     record {
       untouched = λ s. e ∙ ap (λ (x : Bay S). x.sums.now) (same s) ∙ kept (shut_stage b₀.standing.stage (starts ∙ s));
-      long = λ u. ap length e ∙ sym (as_many m b.sums.now) ∙ l.long (up u);
-      summed = λ u. subst (λ (zs : List S). Added (size (row_of o.degree)) (holds h) (meanings m zs)) (sym e) (l.summed (up u));
+      long = λ u. ap length e ∙ sym (as_many m b.sums.now) ∙ l.plainly.long (up u);
+      summed = λ u. subst (λ (zs : List S). Added (size (row_of o.degree)) (holds h) (meanings m zs)) (sym e) (l.plainly.summed (up u));
     }
 
 -- work memory, one answer more

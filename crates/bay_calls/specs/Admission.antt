@@ -11,7 +11,7 @@ use Rattle.bay_calls.specs.declared.standing.Stage.{Stage}
 use Rattle.bay_calls.specs.declared.standing.Stage.TheVariants.{Shut, Gathering, Waiting}
 use Rattle.bay_calls.specs.declared.verdict.Verdict.{Verdict as Token}
 use Rattle.bay_calls.specs.declared.verdict.Refused.{Refused}
-use Rattle.bay_rules.specs.Rules.{fits}
+use Rattle.bay.specs.Rules.{fits}
 use Rattle.bay_calls.specs.Seen.{five}
 
 -- A shut bay denies every call; take, decide and clear are for a bay that gathers, and an answer is for one that waits for

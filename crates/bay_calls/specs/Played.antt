@@ -12,7 +12,7 @@
 --   WorkAfter  work memory after one dealing
 --   WorkLeft   work memory after so many: wiped where a verdict was delivered, and otherwise as it was
 --   SumsLeft   the memory of the sums after a run
-use Rattle.std.specs.Prelude.{◌≡◌, ℕ, ◌-◌, ◌<◌, ◌≤◌, min, Bool, true, false, cond, ◌&&◌, List, [], length, nat_le, slice_index_or, slice_range}
+use Rattle.std.specs.Prelude.{◌≡◌, ℕ, ◌<◌, ◌≤◌, min, Bool, true, false, cond, ◌&&◌, List, [], length, nat_le, slice_index_or, slice_range}
 use Rattle.samples.specs.declared.sample.Sample.{Ghosts}
 use Rattle.kerdock.specs.Code.{size}
 use Rattle.kerdock.specs.Table.{row_of}
@@ -23,9 +23,9 @@ use Rattle.bay_calls.specs.declared.playing.Dealing.{Dealing as Listed}
 use Rattle.bay_calls.specs.declared.playing.Dealing.TheVariants.{Take, Decide, Accept, Repeat, Drop, Clear}
 use Rattle.bay_calls.specs.declared.playing.Answer.{Answer as Written}
 use Rattle.bay_calls.specs.declared.playing.Answer.TheVariants.{Denied, Counted, Delivered, Message}
-use Rattle.bay_rules.specs.Rules.{Dealing, Answer, Opening, Run, shut, holds}
-use Rattle.bay_rules.specs.Rules.Dealing.{Take as taking, Decide as deciding, Accept as accepting, Repeat as repeating, Drop as dropping, Clear as clearing}
-use Rattle.bay_rules.specs.Rules.Answer.{Counted as counting, Delivered as delivering, Message as messaging}
+use Rattle.bay.specs.Rules.{Dealing, Answer, Opening, Run, shut, holds}
+use Rattle.bay.specs.Rules.Dealing.{Take as taking, Decide as deciding, Accept as accepting, Repeat as repeating, Drop as dropping, Clear as clearing}
+use Rattle.bay.specs.Rules.Answer.{Counted as counting, Delivered as delivering, Message as messaging}
 use Rattle.bay_calls.specs.Seen.{five, denies}
 
 abbrev pub part : {S : Type 0} → List S → ℕ → ℕ → List S

@@ -30,8 +30,8 @@ use Rattle.bay_calls.specs.declared.verdict.Verdict.{Verdict as Token}
 use Rattle.bay_calls.specs.declared.verdict.Refused.{Refused}
 use Rattle.bay_calls.specs.declared.bays.Bay.{Bay}
 use Rattle.bay_rules.specs.Denials.{number, place}
-use Rattle.bay_rules.specs.Rules.{Verdict, Answer, Opening}
-use Rattle.bay_rules.specs.Rules.Answer.{Delivered, Denied, Counted, Message}
+use Rattle.bay.specs.Rules.{Verdict, Answer, Opening}
+use Rattle.bay.specs.Rules.Answer.{Delivered, Denied, Counted, Message}
 use Rattle.bay_rules.specs.Lived.{State}
 
 abbrev pub opening : ℕ → ℕ → Opening

@@ -1,6 +1,6 @@
 //! Which calls a bay lets in at which stage.
 ghost use Rattle.std.specs.Prelude.{◌≡◌, Some};
-ghost use Rattle.bay_rules.specs.Rules.{fits};
+ghost use Rattle.bay.specs.Rules.{fits};
 ghost use Rattle.bay_calls.specs.Seen.{five};
 ghost use Rattle.bay_calls.specs.Admission.{admitted};
 

@@ -2,8 +2,8 @@
 ghost use Rattle.std.specs.Prelude.{◌≡◌};
 ghost use Rattle.decoder.specs.Scores.{Reception};
 ghost use Rattle.decoder.specs.Search.{Zeros};
-ghost use Rattle.bay_rules.specs.Rules.Dealing.{Accept, Repeat};
-ghost use Rattle.bay_rules.specs.Rules.Dealing.{Drop as Dropping};
+ghost use Rattle.bay.specs.Rules.Dealing.{Accept, Repeat};
+ghost use Rattle.bay.specs.Rules.Dealing.{Drop as Dropping};
 ghost use Rattle.bay_rules.specs.Lived.{Deals};
 ghost use Rattle.bay_rules.specs.Steps.{Steps};
 ghost use Rattle.bay_calls.specs.Seen.{five, stands, seen, state, accepted, let_go, IfDone, IfDenied, Back};

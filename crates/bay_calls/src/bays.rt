@@ -2,7 +2,7 @@
 ghost use Rattle.std.specs.Prelude.{◌≡◌, length};
 ghost use Rattle.decoder.specs.Search.{Zeros};
 ghost use Rattle.bay_calls.specs.declared.standing.Stage.TheVariants.{Shut, Gathering};
-ghost use Rattle.bay_rules.specs.Rules.Run.{Opened};
+ghost use Rattle.bay.specs.Rules.Run.{Opened};
 ghost use Rattle.bay_rules.specs.Lived.{Lived};
 ghost use Rattle.bay_rules.specs.Steps.{Opens};
 ghost use Rattle.bay_calls.specs.Seen.{opening, state};

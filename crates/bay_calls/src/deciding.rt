@@ -1,6 +1,6 @@
 //! The decision of a bay.
 ghost use Rattle.std.specs.Prelude.{◌≡◌, length, Ok, Err};
-ghost use Rattle.bay_rules.specs.Rules.Dealing.{Decide};
+ghost use Rattle.bay.specs.Rules.Dealing.{Decide};
 ghost use Rattle.bay_rules.specs.Lived.{Deals, OnlyTheScore};
 ghost use Rattle.bay_rules.specs.Steps.{Steps};
 ghost use Rattle.bay_calls.specs.Seen.{seen, state, decided, delivered, IfDenied, Worked};

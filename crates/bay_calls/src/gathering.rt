@@ -1,7 +1,7 @@
 //! Receptions taken into a bay, and let go again.
 ghost use Rattle.std.specs.Prelude.{◌≡◌};
 ghost use Rattle.decoder.specs.Search.{meanings, Zeros};
-ghost use Rattle.bay_rules.specs.Rules.Dealing.{Take, Clear};
+ghost use Rattle.bay.specs.Rules.Dealing.{Take, Clear};
 ghost use Rattle.bay_rules.specs.Lived.{Deals};
 ghost use Rattle.bay_rules.specs.Steps.{Steps};
 ghost use Rattle.bay_calls.specs.Sums.{Summed};

@@ -1,11 +1,11 @@
 //! A list of dealings, played on a bay of its own.
 ghost use Rattle.std.specs.Prelude.{◌≡◌, ℕ, ◌≤◌, min, true, length};
-ghost use Rattle.bay_rules.specs.Rules.{Opening, shut};
-ghost use Rattle.bay_rules.specs.Rules.Run.{Opened};
-ghost use Rattle.bay_rules.specs.Rules.Dealing.{Decide as Deciding};
+ghost use Rattle.bay.specs.Rules.{Opening, shut};
+ghost use Rattle.bay.specs.Rules.Run.{Opened};
+ghost use Rattle.bay.specs.Rules.Dealing.{Decide as Deciding};
 ghost use Rattle.bay_rules.specs.Lived.{Lived, Deals};
 ghost use Rattle.bay_rules.specs.Steps.{Steps};
-ghost use Rattle.bay_rules.specs.Replay.{made, Carries};
+ghost use Rattle.bay.specs.Replay.{made, Carries};
 ghost use Rattle.bay_calls.specs.Seen.{opening, state, delivered, IfDone, IfDenied};
 ghost use Rattle.bay_calls.specs.Played.{part as «part_of», meant, told, handed, written, Beyond, IfNot, Wiped, WorkAfter, WorkLeft, SumsLeft};
 

@@ -2,9 +2,9 @@
 use Rattle.std.proofs.Common.{◌≡◌, ℕ, Bool, true, false, T, eqb, List, Some, None, Option, refl, subst, arith, eq-eqb}
 use lib.Signed.{le_z, ≤ℤ_refl}
 use Rattle.samples.specs.Meaning.{Meaning}
-use Rattle.bay_rules.specs.Rules.{Verdict, Denial, Dealing, Answer, fits, deny}
-use Rattle.bay_rules.specs.Rules.Dealing.{Take, Decide, Accept, Repeat, Drop, Clear}
-use Rattle.bay_rules.specs.Rules.Answer.{Denied, Counted, Delivered}
+use Rattle.bay.specs.Rules.{Verdict, Denial, Dealing, Answer, fits, deny}
+use Rattle.bay.specs.Rules.Dealing.{Take, Decide, Accept, Repeat, Drop, Clear}
+use Rattle.bay.specs.Rules.Answer.{Denied, Counted, Delivered}
 use Rattle.bay_rules.specs.Lived.{State}
 use Rattle.bay_rules.specs.Steps.{Steps, Ends, refusal}
 

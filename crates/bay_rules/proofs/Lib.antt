@@ -1,13 +1,7 @@
-pub mod Orders
-pub mod SameRanking
-pub mod Denials
-pub mod Delivering
+pub mod Refusals
 pub mod Living
 pub mod Starting
-pub mod Decisions
-pub mod Whole
 pub mod Replaying
 pub mod Settling
 pub mod Openings
-pub mod ShutRuns
 pub mod OneAnswer

@@ -1,14 +1,14 @@
 -- The rules give one answer to each dealing.
-use Rattle.std.proofs.Common.{◌≡◌, ℕ, List, ◌∷◌, ℤ, Some, None, Option, sym, refl, ap, ◌∙◌}
+use Rattle.std.proofs.Common.{◌≡◌, ℕ, List, ◌∷◌, ℤ, Some, None, sym, refl, ap, ◌∙◌}
 use Rattle.kerdock.specs.Table.{row_of}
 use Rattle.kerdock.specs.Sound.{Sound}
 use Rattle.kerdock.proofs.RowFacts.{known_sound}
 use Rattle.decoder.specs.Scores.{Reception, scores}
 use Rattle.decoder.proofs.Rankings.{one_ranking}
-use Rattle.bay_rules.specs.Rules.{Run, Dealing, Answer, Opening, Verdict, Rightly, Granted, Unless, Delivers, holds, denial, shut, when}
-use Rattle.bay_rules.specs.Rules.Dealing.{Take, Decide, Accept, Repeat, Drop, Clear}
-use Rattle.bay_rules.specs.Rules.Answer.{Delivered}
-use Rattle.bay_rules.proofs.Denials.{each_none, when_none, opens_known}
+use Rattle.bay.specs.Rules.{Run, Dealing, Answer, Opening, Verdict, Rightly, Granted, Unless, Delivers, holds, denial, shut, when}
+use Rattle.bay.specs.Rules.Dealing.{Take, Decide, Accept, Repeat, Drop, Clear}
+use Rattle.bay.specs.Rules.Answer.{Delivered}
+use Rattle.bay.proofs.Denials.{each_none, when_none, opens_known}
 
 five_of : ℕ → ℕ → ℕ → ℤ → ℕ → Verdict
 five_of d h m s g = record { degree = d; held = h; message = m; score = s; margin = g }

@@ -1,34 +1,14 @@
--- What the tests of an opening settle: whether the bay is shut, and the state that it starts from.
-use Rattle.std.proofs.Common.{◌≡◌, ℕ, Bool, true, false, cond, not, ◌&&◌, T, length, get_or, Some, None, sym, refl, ◌∙◌, subst, arith, eq-eqb, ne_eqb}
+-- What the tests of an opening settle: whether the bay is shut, and the state and the book that it starts from.
+use Rattle.std.proofs.Common.{◌≡◌, ℕ, true, false, cond, T, length, get_or, Some, None, sym, refl, subst, arith}
 use Rattle.kerdock.specs.Code.{size}
 use Rattle.kerdock.specs.Table.{row_of, known}
 use Rattle.kerdock.specs.Books.{Lawful as LawfulBook}
 use Rattle.kerdock.specs.declared.books.CodeBook.{CodeBook}
 use Rattle.decoder.specs.Scores.{Reception}
-use Rattle.bay_rules.specs.Rules.{Opening, shut}
-use Rattle.bay_rules.specs.Steps.{Opens, Zeroed}
-
--- a length that is answered is that of a degree which the table knows
-some_length : (t : Bool) (k n : ℕ) → Some k ≡ cond t (Some n) None → (t ≡ true) × (k ≡ n)
-some_length true k n e = (refl, cc)
-some_length false k n e = let z : ◌≡◌ {A = ℕ} 0 1 = cc in absurd (omega arith)
-
--- no length is that of a degree which the table does not know
-no_length : (t : Bool) (n : ℕ) → None ≡ cond t (Some n) None → t ≡ false
-no_length true n e = let z : ◌≡◌ {A = ℕ} 0 1 = cc in absurd (omega arith)
-no_length false n e = refl
-
--- the degree is not known
-pub shut_degree : (o : Opening) → None ≡ cond (known o.degree) (Some (size (row_of o.degree))) None → shut o ≡ true
-shut_degree o e = let e1 = no_length (known o.degree) _ e in rw e1
-
--- the memory does not fit
-pub shut_memory : (o : Opening) → (o.memory ≡ size (row_of o.degree) → ⊥) → shut o ≡ true
-shut_memory o other = let e1 = ne_eqb o.memory (size (row_of o.degree)) other in rw e1 (both (known o.degree))
-  where
-    both : (a : Bool) → not (a && false) ≡ true
-    both true = refl
-    both false = refl
+use Rattle.bay.specs.Rules.{Opening, shut}
+use Rattle.bay.specs.Steps.{Zeroed}
+use Rattle.bay.proofs.Openings.{some_length, opens_shut as plainly_shut, opens as plainly_opens}
+use Rattle.bay_rules.specs.Steps.{Opens}
 
 -- a book of zeros
 abbrev pub Blank : CodeBook → Type 0
@@ -37,16 +17,7 @@ Blank book = (k : ℕ) → (get_or book.traces k 0 ≡ 0) × (get_or book.places
 -- a bay that stays shut
 pub opens_shut : (o : Opening) (book : CodeBook) (xs : Reception) → shut o ≡ true → Blank book →
     Opens o (record { closed = true; degree = o.degree; held = 0; noted = None; book = book; sums = xs })
-opens_shut o book xs e empty = record {
-  closed = sym e;
-  degree = refl;
-  held = refl;
-  noted = refl;
-  long = λ u. never u;
-  zeros = λ u. never u;
-  book = λ u. never u;
-  blank = λ _. empty;
-}
+opens_shut o book xs e empty = record { plainly = plainly_shut o o.degree xs e; degree = refl; book = λ u. never u; blank = λ _. empty }
   where
     never : {P : Type 0} → true ≡ false → P
     never u = let z : ◌≡◌ {A = ℕ} 0 1 = cc in absurd (omega arith)
@@ -55,24 +26,12 @@ opens_shut o book xs e empty = record {
 pub opens : (o : Opening) (k : ℕ) (book : CodeBook) (xs ys : Reception) → Some k ≡ cond (known o.degree) (Some (size (row_of o.degree))) None →
     o.memory ≡ k → length xs ≡ k → Zeroed xs ys → (T (known o.degree) → LawfulBook (row_of o.degree) book) →
     Opens o (record { closed = false; degree = o.degree; held = 0; noted = None; book = book; sums = ys })
-opens o k book xs ys e same long z lawful =
-    let f = some_length (known o.degree) k _ e in
-    let e1 = f.0 in
-    let e2 = eq-eqb o.memory (size (row_of o.degree)) (same ∙ f.1) in
-    record {
-      closed = rw (e1, e2);
-      degree = refl;
-      held = refl;
-      noted = refl;
-      long = λ _. z.long ∙ long ∙ f.1;
-      zeros = λ _. let l = z.long in record {
-        long = refl;
-        reads_as = λ i s lt four. z.reads_as i s (omega arith) four;
-        none = λ i lt. z.none i (omega arith);
-      };
-      book = λ _. lawful (subst T (sym e1) tt);
-      blank = λ u. never u;
-    }
+opens o k book xs ys e same long z lawful = record {
+  plainly = plainly_opens o k xs ys e same long z;
+  degree = refl;
+  book = λ _. lawful (subst T (sym (some_length (known o.degree) k _ e).0) tt);
+  blank = λ u. never u;
+}
   where
     never : {P : Type 0} → false ≡ true → P
     never u = let z : ◌≡◌ {A = ℕ} 0 1 = cc in absurd (omega arith)

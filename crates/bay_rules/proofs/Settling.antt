@@ -1,24 +1,23 @@
--- What the tests of a call settle: the step that a state takes, once it is known which denial is due, or that none is.
-use Rattle.std.proofs.Common.{◌≡◌, ℕ, ◌+◌, ◌<◌, ◌≤◌, true, false, ◌&&◌, eqb, length, Some, None, Option, sym, refl, subst, eq-eqb, ne_eqb, le-leb}
-use borrow.Author.Tests.{lt-leb}
+-- What the tests of a call settle: the step that a state takes, once it is known which denial is due, or that none is. But for
+-- decisions it is the step of the state without its book.
+use Rattle.std.proofs.Common.{◌≡◌, ℕ, ◌+◌, ◌<◌, ◌≤◌, true, false, ◌&&◌, eqb, length, Some, None, Option, sym, refl, ap₂, subst, eq-eqb, ne_eqb}
 use Rattle.kerdock.specs.Code.{size}
 use Rattle.kerdock.specs.Table.{row_of, known}
+use Rattle.kerdock.specs.declared.books.CodeBook.{CodeBook}
 use Rattle.decoder.specs.Scores.{Reception}
-use Rattle.bay_rules.specs.Rules.{Dealing, Answer, Verdict, Denial, fits, deny, too_large}
-use Rattle.bay_rules.specs.Rules.Dealing.{Take, Decide, Accept, Repeat, Drop, Clear}
-use Rattle.bay_rules.specs.Rules.Answer.{Delivered, Denied, Counted, Message}
-use Rattle.bay_rules.specs.Lived.{State}
-use Rattle.bay_rules.specs.Steps.{refusal, Adds, Zeroed, Leaves, Tells, Does, Ends, Steps}
+use Rattle.bay.specs.Rules.{Dealing, Answer, Verdict, Denial, fits, deny, too_large}
+use Rattle.bay.specs.Rules.Dealing.{Take, Decide, Accept, Repeat, Drop, Clear}
+use Rattle.bay.specs.Rules.Answer.{Delivered, Denied, Counted, Message}
+use Rattle.bay.specs.Lived.{State as Plain}
+use Rattle.bay.specs.Steps.{Adds, Zeroed, Does as PlainDoes, Ends as PlainEnds, Steps as PlainSteps, refusal as plain_refusal, refusals as plain_refusals}
+use Rattle.bay.proofs.Settling.{Gathers as PlainGathers, take_misfits as plain_misfits, take_too_large as plain_too_large, take_full as plain_full, takes as plainly_takes, accept_misfits as plain_accept_misfits, repeat_misfits as plain_repeat_misfits, drop_misfits as plain_drop_misfits, accepts as plainly_accepts, repeats as plainly_repeats, drops as plainly_drops, clears as plainly_clears}
+use Rattle.bay_rules.specs.Lived.{State, plain}
+use Rattle.bay_rules.specs.Steps.{refusal, Leaves, Tells, Does, Ends, Steps}
+use Rattle.bay_rules.proofs.Refusals.{no_last}
 
 -- the bay is open, and no verdict is out
-pub record Gathers (b : State) : Type 0 where
-  pub up : b.closed ≡ false
-  pub none : b.noted ≡ None
-
--- the bay is open, and the verdict v is out
-pub record Waits (b : State) (v : Verdict) : Type 0 where
-  pub up : b.closed ≡ false
-  pub noted : b.noted ≡ Some v
+abbrev pub Gathers : State → Type 0
+Gathers b = PlainGathers (plain b)
 
 -- a denial that is due is answered, and nothing changes
 refused : (b : State) (d : Dealing) (n p : ℕ) → refusal b d ≡ deny n p → Steps b d (Denied n p) b
@@ -40,48 +39,58 @@ shut_refusal b Clear e = rw e
 pub shut_denies : (b : State) (d : Dealing) → b.closed ≡ true → Steps b d (Denied 1 0) b
 shut_denies b d e = refused b d 1 0 (shut_refusal b d e)
 
--- ---- a verdict that is out denies take, decide and clear
-pub take_waits : (b : State) (r : Reception) (v : Verdict) → Waits b v → Steps b (Take r) (Denied 2 0) b
-take_waits b r v w = let e1 = w.up in let e2 = w.noted in refused b (Take r) 2 0 (rw (e1, e2))
+-- ---- a step without the book is a step, where nothing looks at the book
+joined : Plain → CodeBook → State
+joined p book = record { closed = p.closed; degree = p.degree; held = p.held; noted = p.noted; book = book; sums = p.sums }
 
-pub decide_waits : (b : State) (n : ℕ) (v : Verdict) → Waits b v → Steps b (Decide n) (Denied 2 0) b
-decide_waits b n v w = let e1 = w.up in let e2 = w.noted in refused b (Decide n) 2 0 (rw (e1, e2))
+abbrev Bookless : Dealing → Type 0
+Bookless (Take r) = Unit {0}
+Bookless (Decide w) = ⊥
+Bookless (Accept v) = Unit {0}
+Bookless (Repeat v) = Unit {0}
+Bookless (Drop v) = Unit {0}
+Bookless Clear = Unit {0}
 
-pub clear_waits : (b : State) (v : Verdict) → Waits b v → Steps b Clear (Denied 2 0) b
-clear_waits b v w = let e1 = w.up in let e2 = w.noted in refused b Clear 2 0 (rw (e1, e2))
+does : (b : State) (d : Dealing) (a : Answer) (b' : State) → Bookless d → PlainDoes (plain b) d a (plain b') → b'.book ≡ b.book → Does b d a b'
+does b (Take r) a b' k g e = (g, e)
+does b (Decide w) a b' k g e = absurd k
+does b (Accept v) a b' k g e = (g, e)
+does b (Repeat v) a b' k g e = (g, e)
+does b (Drop v) a b' k g e = (g, e)
+does b Clear a b' k g e = (g, e)
+
+ends : (x : Option Denial) (b : State) (d : Dealing) (a : Answer) (b' : State) → Bookless d → PlainEnds x (plain b) d a (plain b') → b'.book ≡ b.book →
+    Ends x b d a b'
+unfolding joined
+ends (Some n) b d a b' k g e = (g.0, ap₂ joined g.1 e)
+ends None b d a b' k g e = does b d a b' k g e
+
+same : (b : State) (d : Dealing) → Bookless d → refusal b d ≡ plain_refusal (plain b) d
+same b (Take r) k = no_last (plain_refusals (plain b) (Take r))
+same b (Decide w) k = absurd k
+same b (Accept v) k = no_last (plain_refusals (plain b) (Accept v))
+same b (Repeat v) k = no_last (plain_refusals (plain b) (Repeat v))
+same b (Drop v) k = no_last (plain_refusals (plain b) (Drop v))
+same b Clear k = no_last (plain_refusals (plain b) Clear)
+
+step : (b : State) (d : Dealing) (a : Answer) (b' : State) → Bookless d → PlainSteps (plain b) d a (plain b') → b'.book ≡ b.book → Steps b d a b'
+step b d a b' k s e = subst (λ (x : Option Denial). Ends x b d a b') (sym (same b d k)) (ends (plain_refusal (plain b) d) b d a b' k s e)
 
 -- ---- take
 module _ (b : State) (r : Reception) (g : Gathers b) where
   pub take_misfits : (length r ≡ length b.sums → ⊥) → Steps b (Take r) (Denied 3 0) b
-  take_misfits other =
-      let e1 = g.up in
-      let e2 = g.none in
-      let e3 = ne_eqb (length r) (length b.sums) other in
-      refused b (Take r) 3 0 (rw (e1, e2, e3))
+  take_misfits other = step b (Take r) (Denied 3 0) b tt (plain_misfits (plain b) r g other) refl
 
   pub take_too_large : (i : ℕ) → length r ≡ length b.sums → too_large 0 r ≡ deny 4 i → Steps b (Take r) (Denied 4 i) b
-  take_too_large i same large =
-      let e1 = g.up in
-      let e2 = g.none in
-      let e3 = eq-eqb (length r) (length b.sums) same in
-      refused b (Take r) 4 i (rw (e1, e2, e3, large))
+  take_too_large i fits large = step b (Take r) (Denied 4 i) b tt (plain_too_large (plain b) r g i fits large) refl
 
   pub take_full : length r ≡ length b.sums → too_large 0 r ≡ None → 16 ≤ b.held → Steps b (Take r) (Denied 5 0) b
-  take_full same large full =
-      let e1 = g.up in
-      let e2 = g.none in
-      let e3 = eq-eqb (length r) (length b.sums) same in
-      let e5 = le-leb 16 b.held full in
-      refused b (Take r) 5 0 (rw (e1, e2, e3, large, e5))
+  take_full fits large full = step b (Take r) (Denied 5 0) b tt (plain_full (plain b) r g fits large full) refl
 
   pub takes : (b' : State) → length r ≡ length b.sums → too_large 0 r ≡ None → b.held < 16 →
       Leaves b b' (b.held + 1) None → Adds b.sums r b'.sums → Steps b (Take r) (Counted (b.held + 1)) b'
-  takes b' same large few t a =
-      let e1 = g.up in
-      let e2 = g.none in
-      let e3 = eq-eqb (length r) (length b.sums) same in
-      let e5 = lt-leb 16 b.held few in
-      done b (Take r) (Counted (b.held + 1)) b' (rw (e1, e2, e3, large, e5)) (refl, t, a)
+  takes b' fits large few t a =
+      step b (Take r) (Counted (b.held + 1)) b' tt (plainly_takes (plain b) r g (plain b') fits large few t.plainly a) t.book
 
 -- ---- decide
 module _ (b : State) (w : ℕ) (g : Gathers b) where
@@ -102,47 +111,47 @@ module _ (b : State) (w : ℕ) (g : Gathers b) where
 
   pub decide_unfit : (b.held ≡ 0 → ⊥) → w ≡ length b.sums → known b.degree && eqb (length b.sums) (size (row_of b.degree)) ≡ false →
       Steps b (Decide w) (Denied 1 0) b
-  decide_unfit some same unfit =
+  decide_unfit some fits unfit =
       let e1 = g.up in
       let e2 = g.none in
       let e3 = ne_eqb b.held 0 some in
-      let e4 = eq-eqb w (length b.sums) same in
+      let e4 = eq-eqb w (length b.sums) fits in
       refused b (Decide w) 1 0 (rw (e1, e2, e3, e4, unfit))
 
   pub decides : (v : Verdict) (b' : State) → (b.held ≡ 0 → ⊥) → w ≡ length b.sums → known b.degree ≡ true →
       length b.sums ≡ size (row_of b.degree) → Leaves b b' b.held (Some v) → b'.sums ≡ b.sums → Tells b v →
       Steps b (Decide w) (Delivered v) b'
-  decides v b' some same listed long t s tells =
+  decides v b' some fits listed long t s tells =
       let e1 = g.up in
       let e2 = g.none in
       let e3 = ne_eqb b.held 0 some in
-      let e4 = eq-eqb w (length b.sums) same in
+      let e4 = eq-eqb w (length b.sums) fits in
       let e5 = eq-eqb (length b.sums) (size (row_of b.degree)) long in
       done b (Decide w) (Delivered v) b' (rw (e1, e2, e3, e4, listed, e5)) (v, refl, t, s, tells)
 
 -- ---- accept, repeat and drop
 module _ (b : State) (v : Verdict) (up : b.closed ≡ false) where
   pub accept_misfits : fits v b.noted ≡ false → Steps b (Accept v) (Denied 8 0) b
-  accept_misfits other = refused b (Accept v) 8 0 (rw (up, other))
+  accept_misfits other = step b (Accept v) (Denied 8 0) b tt (plain_accept_misfits (plain b) v up other) refl
 
   pub repeat_misfits : fits v b.noted ≡ false → Steps b (Repeat v) (Denied 8 0) b
-  repeat_misfits other = refused b (Repeat v) 8 0 (rw (up, other))
+  repeat_misfits other = step b (Repeat v) (Denied 8 0) b tt (plain_repeat_misfits (plain b) v up other) refl
 
   pub drop_misfits : fits v b.noted ≡ false → Steps b (Drop v) (Denied 8 0) b
-  drop_misfits other = refused b (Drop v) 8 0 (rw (up, other))
+  drop_misfits other = step b (Drop v) (Denied 8 0) b tt (plain_drop_misfits (plain b) v up other) refl
 
   pub accepts : (b' : State) → fits v b.noted ≡ true → Leaves b b' 0 None → Zeroed b.sums b'.sums →
       Steps b (Accept v) (Message v.message) b'
-  accepts b' same t z = done b (Accept v) (Message v.message) b' (rw (up, same)) (refl, t, z)
+  accepts b' it t z = step b (Accept v) (Message v.message) b' tt (plainly_accepts (plain b) v up (plain b') it t.plainly z) t.book
 
   pub repeats : (b' : State) → fits v b.noted ≡ true → Leaves b b' b.held None → b'.sums ≡ b.sums →
       Steps b (Repeat v) (Counted b.held) b'
-  repeats b' same t s = done b (Repeat v) (Counted b.held) b' (rw (up, same)) (refl, t, s)
+  repeats b' it t s = step b (Repeat v) (Counted b.held) b' tt (plainly_repeats (plain b) v up (plain b') it t.plainly s) t.book
 
   pub drops : (b' : State) → fits v b.noted ≡ true → Leaves b b' 0 None → Zeroed b.sums b'.sums →
       Steps b (Drop v) (Counted b.held) b'
-  drops b' same t z = done b (Drop v) (Counted b.held) b' (rw (up, same)) (refl, t, z)
+  drops b' it t z = step b (Drop v) (Counted b.held) b' tt (plainly_drops (plain b) v up (plain b') it t.plainly z) t.book
 
 -- ---- clear
 pub clears : (b b' : State) → Gathers b → Leaves b b' 0 None → Zeroed b.sums b'.sums → Steps b Clear (Counted b.held) b'
-clears b b' g t z = let e1 = g.up in let e2 = g.none in done b Clear (Counted b.held) b' (rw (e1, e2)) (refl, t, z)
+clears b b' g t z = step b Clear (Counted b.held) b' tt (plainly_clears (plain b) (plain b') g t.plainly z) t.book

@@ -1,6 +1,3 @@
-pub mod Rules
-pub mod Law
 pub mod Lived
 pub mod Steps
 pub mod Denials
-pub mod Replay

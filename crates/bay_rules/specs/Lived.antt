@@ -1,19 +1,19 @@
--- A bay has lived a run: its plain numbers and its sums are what the run comes to.
+-- A bay's state with the code book that its searches use, and the run that it has lived.
 --   State         what a bay keeps: whether it is shut, its degree, the held count, the verdict that is out, the code book, the sums
---   Lived         a state is what a lawful run from an opening comes to
+--   plain         a state without its book
+--   Lived         a state is what a lawful run from an opening comes to, and its book is the one of the degree
 --   Deals         a dealing with a bay, whatever run it has lived
 --   OnlyTheScore  a delivered verdict stands under the law, whatever run the bay has lived
-use Rattle.std.specs.Prelude.{◌≡◌, ℕ, ◌*◌, ◌<◌, ◌≤◌, Bool, false, length, Option, slice_index_or}
-use Rattle.samples.specs.Meaning.{silence}
-use Rattle.kerdock.specs.Code.{size}
+use Rattle.std.specs.Prelude.{◌≡◌, ℕ, Bool, false, Option}
 use Rattle.kerdock.specs.Table.{row_of}
 use Rattle.kerdock.specs.Books.{Lawful as LawfulBook}
 use Rattle.kerdock.specs.declared.books.CodeBook.{CodeBook}
-use Rattle.decoder.specs.Scores.{Reception, Added}
-use Rattle.bay_rules.specs.Rules.{Run, Dealing, Answer, Opening, Verdict, Lawful, Rightly, holds, out, shut}
-use Rattle.bay_rules.specs.Rules.Run.{Then}
-use Rattle.bay_rules.specs.Rules.Answer.{Delivered}
-use Rattle.bay_rules.specs.Law.{Chooses}
+use Rattle.decoder.specs.Scores.{Reception}
+use Rattle.bay.specs.Rules.{Run, Dealing, Answer, Opening, Verdict, Rightly}
+use Rattle.bay.specs.Rules.Run.{Then}
+use Rattle.bay.specs.Rules.Answer.{Delivered}
+use Rattle.bay.specs.Law.{Chooses}
+use Rattle.bay.specs.Lived.{State as Plain, Lived as PlainLived}
 
 pub record State : Type 0 where
   pub closed : Bool
@@ -23,20 +23,13 @@ pub record State : Type 0 where
   pub book : CodeBook
   pub sums : Reception
 
+abbrev pub plain : State → Plain
+plain b = record { closed = b.closed; degree = b.degree; held = b.held; noted = b.noted; sums = b.sums }
+
 pub record Lived (o : Opening) (h : Run) (b : State) : Type 0 where
-  pub lawful : Lawful o h
-  pub closed : b.closed ≡ shut o
-  pub degree : b.closed ≡ false → b.degree ≡ o.degree
-  pub held : b.held ≡ length (holds h)
-  pub few : length (holds h) ≤ 16
-  pub noted : b.noted ≡ out h
+  pub plainly : PlainLived o h (plain b)
   -- a bay that is not shut holds the code book of its degree
   pub book : b.closed ≡ false → LawfulBook (row_of o.degree) b.book
-  -- one sum for each index, which reads the sum of what the held receptions read there
-  pub long : b.closed ≡ false → length b.sums ≡ size (row_of o.degree)
-  pub summed : b.closed ≡ false → Added (size (row_of o.degree)) (holds h) b.sums
-  -- no held sample has a size above 32,767, and sizes add at most
-  pub small : b.closed ≡ false → (i : ℕ) → i < size (row_of o.degree) → (slice_index_or b.sums i silence).size ≤ 32767 * length (holds h)
 
 -- the answer is the one that the rules give, and the bay has then lived one dealing more
 abbrev pub Deals : State → Dealing → Answer → State → Type 0

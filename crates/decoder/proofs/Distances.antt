@@ -1,7 +1,7 @@
 -- For complex samples the squared distance of a word falls as its score rises.
 use Rattle.std.proofs.Common.{◌≡◌, ℕ, zero, suc, ◌*◌, List, [], ◌∷◌, get_or, ℤ, pos, ◌+ℤ◌, ◌*ℤ◌, sym, refl, ◌∙◌, arith}
 use borrow.Author.Differences.{ints}
-use Rattle.std.specs.List.{AllByRecursion as All}
+use Rattle.std.specs.List.{AllByRecursion}
 use Rattle.samples.specs.Meaning.{silence, over}
 use Rattle.kerdock.specs.Code.{Row, size, symbol}
 use Rattle.decoder.specs.Scores.{Reception, score, scores, IsComplex, square, distance, distances}
@@ -32,13 +32,13 @@ powers row g [] = pos 0
 powers row g (r ∷ rs) = power row g r +ℤ powers row g rs
 
 -- a squared distance plus 2 g times the score is the same for every word
-distance_balance : (row : Row) (g m : ℕ) (r : Reception) → All IsComplex r → distance row g r m +ℤ (pos (2 * g) *ℤ score row r m) ≡ power row g r
+distance_balance : (row : Row) (g m : ℕ) (r : Reception) → AllByRecursion IsComplex r → distance row g r m +ℤ (pos (2 * g) *ℤ score row r m) ≡ power row g r
 unfolding power distance score
 distance_balance row g m r h =
     over_balance (size row) (pos (2 * g)) _ _ _ (λ i. far_balance g (symbol row m i) (get_or r i silence) (all_at IsComplex silence silence_complex r h i))
 
 -- the same over several receptions
-distances_balance : (row : Row) (g m : ℕ) (rs : List Reception) → All (All IsComplex) rs →
+distances_balance : (row : Row) (g m : ℕ) (rs : List Reception) → AllByRecursion (AllByRecursion IsComplex) rs →
     distances row g rs m +ℤ (pos (2 * g) *ℤ scores row rs m) ≡ powers row g rs
 unfolding powers
 distances_balance row g m [] h = omega (arith, ints)

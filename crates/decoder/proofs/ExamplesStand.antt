@@ -3,7 +3,7 @@ use Rattle.std.proofs.Common.{◌≡◌, ℕ, zero, suc, ◌+◌, ◌*◌, ◌%�
 use mathlib.Core.Path.{fun_ext}
 use borrow.Author.Differences.{ints}
 use lib.Signed.{le_z, lt_z, le_z_yes, lt_z_yes}
-use Rattle.std.specs.List.{AllByRecursion as All}
+use Rattle.std.specs.List.{AllByRecursion}
 use Rattle.samples.specs.Meaning.{reads, silence}
 use Rattle.samples.specs.ComplexKind.{complex_turned}
 use Rattle.samples.proofs.Sums.{over_same}
@@ -151,10 +151,10 @@ passed_stands (decided rs m s margin) h =
       same_number→eq (f m) s (right led right-score h),
     )
 
-all_stand : (xs : List Example) → T (all_pass trace_list xs) → All Stands xs
+all_stand : (xs : List Example) → T (all_pass trace_list xs) → AllByRecursion Stands xs
 all_stand [] h = tt
 all_stand (x ∷ xs) h =
     (passed_stands x (left (passes trace_list x) (all_pass trace_list xs) h), all_stand xs (right (passes trace_list x) (all_pass trace_list xs) h))
 
-pub examples_stand : All Stands examples
+pub examples_stand : AllByRecursion Stands examples
 examples_stand = all_stand examples computed

@@ -1,7 +1,7 @@
 -- Totals over indices and receptions: scores add, and a reception of small samples moves a score little.
 use Rattle.std.proofs.Common.{◌≡◌, ℕ, zero, suc, ◌*◌, ◌<◌, ◌≤◌, List, [], ◌∷◌, get_or, ℤ, pos, ◌+ℤ◌, nat_abs, refl, ap, ◌∙◌, suc-mul, arith}
 use borrow.Author.Differences.{ints}
-use Rattle.std.specs.List.{AllByRecursion as All}
+use Rattle.std.specs.List.{AllByRecursion}
 use Rattle.samples.specs.Meaning.{Meaning, reads, silence, over}
 use Rattle.samples.proofs.Sums.{over_same}
 use Rattle.kerdock.specs.Code.{Row, size, symbol}
@@ -11,7 +11,7 @@ use Rattle.decoder.specs.Scores.{Reception, score, scores, readings, Added}
 use Rattle.decoder.specs.Laws.{ScoresAdd}
 
 -- what holds of every element and of the default holds at every index, past the end too
-pub all_at : {X : Type 0} (P : X → Type 0) (d : X) → P d → (xs : List X) → All P xs → (i : ℕ) → P (get_or xs i d)
+pub all_at : {X : Type 0} (P : X → Type 0) (d : X) → P d → (xs : List X) → AllByRecursion P xs → (i : ℕ) → P (get_or xs i d)
 all_at P d p [] h i = p
 all_at P d p (x ∷ xs) h zero = h.0
 all_at P d p (x ∷ xs) h (suc i) = all_at P d p xs h.1 i
@@ -56,7 +56,7 @@ score_added row sound rs x added m =
     over_same (size row) _ _ (λ i l. added i (symbol row m i) l ((words row sound).small m i)) ∙ over_readings row rs m
 
 -- a score over samples of size s at most has an absolute value of N × s at most
-score_within : (row : Row) (r : Reception) (s : ℕ) → All (λ x. x.size ≤ s) r → (m : ℕ) → nat_abs (score row r m) ≤ size row * s
+score_within : (row : Row) (r : Reception) (s : ℕ) → AllByRecursion (λ x. x.size ≤ s) r → (m : ℕ) → nat_abs (score row r m) ≤ size row * s
 unfolding score
 score_within row r s small m =
     over_within (size row) s _ (λ i l.

@@ -5,7 +5,7 @@
 --   TurnedScores turning receptions along a word moves each score to the sum of the messages
 --   Nearest      for complex samples a higher score is a smaller squared distance, at every amplitude from 1 up
 use Rattle.std.specs.Prelude.{◌≡◌, ℕ, ◌+◌, ◌*◌, ◌<◌, ◌≤◌, List, ℤ, pos, ◌+ℤ◌, ◌*ℤ◌, ◌≤ℤ◌}
-use Rattle.std.specs.List.{AllZip, AllByRecursion as All}
+use Rattle.std.specs.List.{AllZip, AllByRecursion}
 use Rattle.kerdock.specs.Code.{Row, size, messages, sum_of}
 use Rattle.decoder.specs.Scores.{Reception, score, scores, Added, Turned, IsComplex, distances}
 use Rattle.decoder.specs.Ranking.{Ranking, Leads}
@@ -13,7 +13,7 @@ use Rattle.decoder.specs.Ranking.{Ranking, Leads}
 pub record ScoresAdd (row : Row) : Type 0 where
   pub one : (rs : List Reception) (x : Reception) → Added (size row) rs x → (m : ℕ) → score row x m ≡ scores row rs m
   -- a reception whose samples reach size s at most moves no score by more than N × s
-  pub small : (r : Reception) (s : ℕ) → All (λ x. x.size ≤ s) r → (m : ℕ) →
+  pub small : (r : Reception) (s : ℕ) → AllByRecursion (λ x. x.size ≤ s) r → (m : ℕ) →
       (score row r m ≤ℤ pos (size row * s)) × (pos 0 ≤ℤ (score row r m +ℤ pos (size row * s)))
 
 pub record OneRanking (row : Row) : Type 0 where
@@ -40,8 +40,8 @@ pub record TurnedScores (row : Row) : Type 0 where
 
 pub record Nearest (row : Row) : Type 0 where
   -- the squared distance and 2 g times the score make up the same sum for every word
-  pub balance : (rs : List Reception) → All (All IsComplex) rs → (g m k : ℕ) →
+  pub balance : (rs : List Reception) → AllByRecursion (AllByRecursion IsComplex) rs → (g m k : ℕ) →
       distances row g rs m +ℤ (pos (2 * g) *ℤ scores row rs m) ≡ distances row g rs k +ℤ (pos (2 * g) *ℤ scores row rs k)
   -- so a score that is not lower is a distance that is not larger
-  pub nearer : (rs : List Reception) → All (All IsComplex) rs → (g : ℕ) → 1 ≤ g → (m k : ℕ) → scores row rs k ≤ℤ scores row rs m →
+  pub nearer : (rs : List Reception) → AllByRecursion (AllByRecursion IsComplex) rs → (g : ℕ) → 1 ≤ g → (m k : ℕ) → scores row rs k ≤ℤ scores row rs m →
       distances row g rs m ≤ℤ distances row g rs k

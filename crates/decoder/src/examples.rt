@@ -1,8 +1,8 @@
 // The worked examples of the definitions.
-ghost use Rattle.std.specs.List.{AllByRecursion as All};
+ghost use Rattle.std.specs.List.{AllByRecursion};
 ghost use Rattle.decoder.specs.Examples.{Stands, examples};
 
 // Every worked example stands.
 pub fn examples_hold()
-    ensures { All Stands examples }
+    ensures { AllByRecursion Stands examples }
 {}

@@ -12,8 +12,8 @@ use Rattle.reception_file.specs.declared.refusal.Refusal.{Refusal}
 use Rattle.reception_file.specs.declared.refusal.Refusal.TheVariants.{Memory, Short, Mark, Version, Kind, Degree, Count, Length, Part, Reception, Room}
 use Rattle.reception_file.specs.declared.stored.Stored.{Ghosts as StoredGhosts}
 use Rattle.reception_file.proofs.Accepting.{never_faulty}
-use Rattle.bay_rules.specs.Rules.{Run, holds, out, shut, denial}
-use Rattle.bay_rules.specs.Rules.Dealing.{Take, Decide}
+use Rattle.bay.specs.Rules.{Run, holds, out, shut, denial}
+use Rattle.bay.specs.Rules.Dealing.{Take, Decide}
 use Rattle.bay_calls.specs.Seen.{opening}
 use Rattle.bay_calls.proofs.Means.{as_many, no_large}
 use Rattle.gateway.specs.Receptions.{samples_at}

@@ -9,10 +9,10 @@ use Rattle.reception_file.specs.Layout.{at}
 use Rattle.reception_file.specs.Pick.{Picked, sample_at}
 use Rattle.reception_file.specs.declared.stored.Stored.{Ghosts as StoredGhosts}
 use Rattle.bay_rules.specs.declared.denial.Denial.{Denial as Why}
-use Rattle.bay_rules.specs.Rules.{Answer, Denial, Unless}
-use Rattle.bay_rules.specs.Rules.Run.{Then}
-use Rattle.bay_rules.specs.Rules.Dealing.{Take}
-use Rattle.bay_rules.specs.Rules.Answer.{Counted}
+use Rattle.bay.specs.Rules.{Answer, Denial, Unless}
+use Rattle.bay.specs.Rules.Run.{Then}
+use Rattle.bay.specs.Rules.Dealing.{Take}
+use Rattle.bay.specs.Rules.Answer.{Counted}
 use Rattle.bay_rules.specs.Lived.{State, Deals}
 use Rattle.bay_calls.specs.Seen.{denies}
 use Rattle.bay_calls.proofs.Means.{as_many, meaning_at}

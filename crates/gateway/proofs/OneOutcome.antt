@@ -1,5 +1,5 @@
 -- A file has one verdict: what the receptions of a file read decides every score, and the scores decide the rest.
-use Rattle.std.proofs.Common.{◌≡◌, ℕ, zero, suc, ◌<◌, List, [], ◌∷◌, length, get_or, ℤ, ◌+ℤ◌, sym, refl, ap, ◌∙◌, ap₂, arith}
+use Rattle.std.proofs.Common.{◌≡◌, ℕ, suc, ◌<◌, List, [], ◌∷◌, length, get_or, ◌+ℤ◌, sym, refl, ap, ◌∙◌, ap₂, arith}
 use Rattle.samples.specs.Meaning.{reads, silence}
 use Rattle.samples.proofs.Sums.{over_same}
 use Rattle.kerdock.specs.Code.{Row, size, symbol}
@@ -8,13 +8,13 @@ use Rattle.kerdock.specs.Sound.{Sound}
 use Rattle.kerdock.proofs.Words.{words}
 use Rattle.decoder.specs.Scores.{Reception, score, scores}
 use Rattle.reception_file.specs.Layout.{at}
-use Rattle.bay_rules.specs.Rules.{Opening, Verdict, Delivers, holds}
+use Rattle.bay.specs.Rules.{Opening, Verdict, Delivers, holds}
 use Rattle.bay_rules.specs.declared.numbers.Numbers.{Numbers}
-use Rattle.bay_rules.proofs.Decisions.{sound_at, delivered}
+use Rattle.bay.proofs.Deciding.{sound_at, delivered}
 use Rattle.bay_rules.proofs.OneAnswer.{one_verdict}
-use Rattle.bay_rules.proofs.SameRanking.{same_ranking}
+use Rattle.bay.proofs.SameRanking.{same_ranking}
 use Rattle.bay_calls.specs.Seen.{five, opening}
-use Rattle.gateway.specs.Receptions.{samples_at, Gathered}
+use Rattle.gateway.specs.Receptions.{samples_at}
 use Rattle.gateway.specs.Decoded.{FromFile}
 use Rattle.gateway.proofs.Due.{known_degree}
 

@@ -2,13 +2,13 @@
 use Rattle.std.proofs.Common.{◌≡◌, ℕ, true, false, eqb, ◌∷◌, ℤ, pos, negsuc, Some, None, refl, arith, eq-eqb, le-leb}
 use lib.Signed.{le_z}
 use Rattle.bay_rules.specs.declared.denial.Denial.{Denial as Why}
-use Rattle.bay_rules.specs.Rules.{Run, Verdict, denial, shut, fits, when}
-use Rattle.bay_rules.specs.Rules.Run.{Then}
-use Rattle.bay_rules.specs.Rules.Dealing.{Decide, Accept}
-use Rattle.bay_rules.specs.Rules.Answer.{Delivered}
+use Rattle.bay.specs.Rules.{Run, Verdict, denial, shut, fits, when}
+use Rattle.bay.specs.Rules.Run.{Then}
+use Rattle.bay.specs.Rules.Dealing.{Decide, Accept}
+use Rattle.bay.specs.Rules.Answer.{Delivered}
 use Rattle.bay_rules.specs.Lived.{State, Deals}
 use Rattle.bay_calls.specs.Seen.{denies}
-use Rattle.bay_rules.proofs.Denials.{each_none, when_none}
+use Rattle.bay.proofs.Denials.{each_none, when_none}
 use Rattle.gateway.specs.Partly.{Ripe}
 use Rattle.gateway.proofs.Held.{granted_then}
 

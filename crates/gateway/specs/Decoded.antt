@@ -7,8 +7,8 @@ use Rattle.std.specs.Prelude.{◌≡◌, ℕ, List, Ok, Err, Result}
 use Rattle.reception_file.specs.Layout.{at}
 use Rattle.reception_file.specs.Check.{Accepted, Faulty}
 use Rattle.reception_file.specs.declared.refusal.Refusal.{Refusal}
-use Rattle.bay_rules.specs.Rules.{Run, holds}
-use Rattle.bay_rules.specs.Law.{Decides, Chooses}
+use Rattle.bay.specs.Rules.{Run, holds}
+use Rattle.bay.specs.Law.{Decides, Chooses}
 use Rattle.bay_calls.specs.Seen.{opening, five}
 use Rattle.bay_rules.specs.declared.numbers.Numbers.{Numbers}
 use Rattle.gateway.specs.Receptions.{samples_at, Gathered}

@@ -14,9 +14,9 @@ use Rattle.samples.specs.declared.sample.Sample.{Ghosts}
 use Rattle.decoder.specs.Scores.{Reception}
 use Rattle.reception_file.specs.Layout.{at, part_at}
 use Rattle.reception_file.specs.declared.stored.Stored.{Ghosts as StoredGhosts}
-use Rattle.bay_rules.specs.Rules.{Run, Opening, holds, out, denial}
-use Rattle.bay_rules.specs.Rules.Dealing.{Decide}
-use Rattle.bay_rules.specs.Law.{Decides, Chooses}
+use Rattle.bay.specs.Rules.{Run, Opening, holds, out, denial}
+use Rattle.bay.specs.Rules.Dealing.{Decide}
+use Rattle.bay.specs.Law.{Decides, Chooses}
 use Rattle.bay_rules.specs.Lived.{State, Lived}
 use Rattle.bay_calls.specs.Seen.{opening, five}
 use Rattle.bay_rules.specs.declared.numbers.Numbers.{Numbers}

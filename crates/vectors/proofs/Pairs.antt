@@ -1,5 +1,5 @@
 -- One pair of digits more.
-use Rattle.std.proofs.Common.{◌≡◌, ℕ, ◌+◌, ◌*◌, ◌<◌, List, get_or, sym, ap, below_more}
+use Rattle.std.proofs.Common.{◌≡◌, ℕ, ◌+◌, ◌*◌, ◌<◌, List, get_or, below_more}
 use Rattle.vectors.specs.Hexadecimal.{high, low}
 
 -- the pair at k writes byte k

@@ -1,7 +1,7 @@
 use Rattle.std.proofs.Common.{sym, refl, subst}
 use Rattle.bay_rules.specs.declared.numbers.Numbers.{Numbers}
-use Rattle.bay_rules.specs.Rules.Answer.{Message}
-use Rattle.bay_rules.specs.Rules.Dealing.{Accept}
+use Rattle.bay.specs.Rules.Answer.{Message}
+use Rattle.bay.specs.Rules.Dealing.{Accept}
 use Rattle.bay_rules.specs.Steps.{Steps}
 use Rattle.bay_calls.specs.Seen.{five, stands, seen}
 use Rattle.decoder.specs.Search.{meanings}

@@ -1,5 +1,5 @@
 use Rattle.std.proofs.Common.{sym, refl}
-use Rattle.bay_rules.specs.Rules.Dealing.{Drop}
+use Rattle.bay.specs.Rules.Dealing.{Drop}
 use Rattle.bay_calls.specs.Seen.{five, stands, seen}
 use Rattle.decoder.specs.Search.{meanings}
 use Rattle.bay_calls.proofs.Means.{zero_means}

@@ -1,6 +1,6 @@
 use Rattle.std.proofs.Common.{refl}
 use Rattle.bay_rules.proofs.Settling.{repeat_misfits}
-use Rattle.bay_rules.specs.Rules.Dealing.{Repeat}
+use Rattle.bay.specs.Rules.Dealing.{Repeat}
 use Rattle.bay_calls.specs.Seen.{five, stands}
 use Rattle.bay_calls.proofs.Stages.{denied_answer}
 use Rattle.bay_calls.proofs.answering.repeat_on.Goals as goal

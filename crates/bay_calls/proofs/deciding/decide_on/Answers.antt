@@ -4,9 +4,9 @@ use Rattle.decoder.specs.Search.{meanings, Found}
 use Rattle.bay_calls.specs.declared.admission.Call.TheVariants.{Decide}
 use Rattle.bay_calls.specs.declared.standing.Stage.TheVariants.{Gathering}
 use Rattle.bay_calls.specs.Admission.{admitted}
-use Rattle.bay_rules.specs.Rules.{Verdict}
-use Rattle.bay_rules.specs.Rules.Answer.{Denied}
-use Rattle.bay_rules.specs.Rules.Dealing.{Decide as Deciding}
+use Rattle.bay.specs.Rules.{Verdict}
+use Rattle.bay.specs.Rules.Answer.{Denied}
+use Rattle.bay.specs.Rules.Dealing.{Decide as Deciding}
 use Rattle.bay_rules.specs.Steps.{Steps}
 use Rattle.bay_calls.specs.Seen.{seen}
 use Rattle.bay_rules.specs.Lived.{State}
@@ -47,7 +47,7 @@ returns-in-Some g c =
     let fit = searched_fits m _ xs _ found.0 in
     record {
       steps = decides b (length c.args.work.now) gs v _ c.if-standing-eq0.false (c.if-work-sums.false ∙ sym (as_many m xs)) fit.0 fit.1
-          (record { closed = sym gs.up; degree = refl; book = refl; held_is = refl; noted_is = refl })
+          (record { plainly = record { closed = sym gs.up; degree = refl; held_is = refl; noted_is = refl }; book = refl })
           (ap (meanings m) c.look.ensures.kept)
           (record {
             degree = refl;

@@ -1,5 +1,4 @@
-use Rattle.std.proofs.Common.{◌≡◌, length, sym, refl, ◌∙◌}
-use Rattle.kerdock.specs.declared.books.CodeBook.{CodeBook}
+use Rattle.std.proofs.Common.{◌≡◌, sym, refl, ◌∙◌}
 use Rattle.decoder.specs.Search.{meanings}
 use Rattle.bay_calls.specs.declared.admission.Call.TheVariants.{Take}
 use Rattle.bay_calls.specs.declared.standing.Stage.TheVariants.{Gathering}
@@ -66,7 +65,7 @@ returns g c =
           takes (seen m r book xs) (meanings m handed) gs _
           (as_many m handed ∙ c.if-reception-sums.false ∙ sym (as_many m xs)) (no_large m handed c.in_default-first_above.ensures)
           c.if-standing-ge16.false
-          (record { closed = refl; degree = refl; book = refl; held_is = refl; noted_is = gs.none })
+          (record { plainly = record { closed = refl; degree = refl; held_is = refl; noted_is = gs.none }; book = refl })
           (added_means m xs handed _ c.if-reception-sums.false c.add_into.ensures);
       summed = c.add_into.ensures;
       unmoved = tt;

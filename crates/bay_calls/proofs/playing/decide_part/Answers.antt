@@ -1,5 +1,5 @@
 use Rattle.std.proofs.Common.{◌≡◌, ℕ, ◌-◌, ◌≤◌, length, take, sym, ◌∙◌, subst, arith, length-take-le}
-use Rattle.bay_rules.specs.Rules.Dealing.{Decide}
+use Rattle.bay.specs.Rules.Dealing.{Decide}
 use Rattle.bay_rules.specs.Steps.{Steps}
 use Rattle.bay_calls.specs.Seen.{state, delivered}
 use Rattle.bay_rules.proofs.Living.{deals}

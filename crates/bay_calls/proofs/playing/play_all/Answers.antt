@@ -1,7 +1,7 @@
 use Rattle.std.proofs.Common.{◌≡◌, ℕ, true, length, ◌∙◌, subst, arith}
-use Rattle.bay_rules.specs.Rules.{shut}
+use Rattle.bay.specs.Rules.{shut}
 use Rattle.bay_rules.specs.Lived.{Lived}
-use Rattle.bay_rules.specs.Replay.{made}
+use Rattle.bay.specs.Replay.{made}
 use Rattle.bay_calls.specs.Seen.{state}
 use Rattle.bay_calls.specs.Played.{handed, written, Beyond, WorkAfter, WorkLeft}
 use Rattle.bay_calls.proofs.Turns.{turn, beyond_more, work_more}

@@ -1,8 +1,8 @@
 use Rattle.std.proofs.Common.{◌≡◌, true, length}
-use Rattle.bay_rules.specs.Rules.{Opening, shut}
-use Rattle.bay_rules.specs.Rules.Run.{Opened}
+use Rattle.bay.specs.Rules.{Opening, shut}
+use Rattle.bay.specs.Rules.Run.{Opened}
 use Rattle.bay_rules.specs.Lived.{Lived}
-use Rattle.bay_rules.specs.Replay.{made}
+use Rattle.bay.specs.Replay.{made}
 use Rattle.bay_calls.specs.Seen.{state}
 use Rattle.bay_calls.specs.Played.{handed, written, Beyond, WorkLeft}
 use Rattle.bay_calls.proofs.playing.play_all.Given as goal

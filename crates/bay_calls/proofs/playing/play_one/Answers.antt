@@ -1,8 +1,8 @@
 use Rattle.std.proofs.Common.{ℕ, length, sym, ap, subst}
 use Rattle.bay_rules.specs.declared.numbers.Numbers.{Numbers}
-use Rattle.bay_rules.specs.Rules.{Dealing}
-use Rattle.bay_rules.specs.Rules.Answer.{Delivered}
-use Rattle.bay_rules.specs.Rules.Dealing.{Decide}
+use Rattle.bay.specs.Rules.{Dealing}
+use Rattle.bay.specs.Rules.Answer.{Delivered}
+use Rattle.bay.specs.Rules.Dealing.{Decide}
 use Rattle.bay_rules.specs.Lived.{State, Deals}
 use Rattle.bay_calls.specs.Seen.{five, state}
 use Rattle.bay_calls.specs.Played.{meant}

@@ -1,6 +1,6 @@
 use Rattle.std.proofs.Common.{◌≡◌, ℕ, subst, arith}
 use Rattle.reception_file.specs.Layout.{at}
-use Rattle.bay_rules.specs.Rules.{holds}
+use Rattle.bay.specs.Rules.{holds}
 use Rattle.gateway.specs.Partly.{FirstOnes, file_opening}
 use Rattle.gateway.proofs.Due.{free_decide}
 use Rattle.gateway.proofs.taking.decode_with.Goals as goal

@@ -1,5 +1,5 @@
 use Rattle.std.proofs.Common.{length, sym, refl, subst}
-use Rattle.bay_rules.specs.Law.{Decides, Chooses}
+use Rattle.bay.specs.Law.{Decides, Chooses}
 use Rattle.bay_calls.specs.Seen.{five}
 use Rattle.bay_rules.specs.declared.numbers.Numbers.{Numbers}
 use Rattle.gateway.proofs.Verdicts.{never_misfits}
@@ -13,4 +13,4 @@ pub returns : goal.returns
 returns g c o h l =
     let p = c.in-Ok.ensures in
     subst (λ (n : Numbers). Decides o h (five n) × Chooses o h (five n)) (sym c.numbers-numbers.ensures)
-    ((length c.args.work.now, (p.deals o h l).1.lawful), p.law o h _ l refl)
+    ((length c.args.work.now, (p.deals o h l).1.plainly.lawful), p.law o h _ l refl)

@@ -1,7 +1,7 @@
 use Rattle.std.proofs.Common.{length, sym, refl, subst}
 use Rattle.bay_rules.specs.declared.numbers.Numbers.{Numbers}
-use Rattle.bay_rules.specs.Rules.Answer.{Delivered}
-use Rattle.bay_rules.specs.Rules.Dealing.{Decide}
+use Rattle.bay.specs.Rules.Answer.{Delivered}
+use Rattle.bay.specs.Rules.Dealing.{Decide}
 use Rattle.bay_rules.specs.Steps.{Steps}
 use Rattle.bay_calls.specs.Seen.{five, seen, state}
 use Rattle.bay_rules.proofs.Living.{deals}
