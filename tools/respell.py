@@ -4,8 +4,8 @@
 usage: tools/respell.py [--list]      at the top of the repository, after port.py, once
 
 A name that a file of specs/ or proofs/ defines, and that has a dash or an inner capital, is respelled with underscores,
-wherever it stands in .antt files, in clauses and `ghost use` lines of .rt files, and in edits. Names of Rust functions, of
-types, of constructors and of goals stay, and so do texts in quotes. With --list nothing is written: the names are printed,
+wherever it stands in the .antt, .rt and .edit files of crates/, comments too, but not in quotes. Names of Rust functions, of
+types, of constructors and of goals stay, since no such name is defined there in lower case with a dash or an inner capital. With --list nothing is written: the names are printed,
 and those that would fall together with another word.
 """
 

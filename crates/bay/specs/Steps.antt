@@ -11,7 +11,7 @@
 --   Ends      the same of a dealing whose denial is given
 --   Steps     the same of every dealing; a denied one leaves the state as it was
 --   Opens     a bay as an opening leaves it
-use Rattle.std.specs.Prelude.{◌≡◌, ℕ, ◌+◌, ◌<◌, ◌≤◌, false, not, T, List, [], ◌∷◌, length, get_or, pos, ◌+ℤ◌, Some, None, Option, ◌==◌, nat_le, slice_index_or}
+use Rattle.std.specs.Prelude.{◌≡◌, ℕ, ◌+◌, ◌<◌, ◌≤◌, false, not, T, List, [], ◌∷◌, length, pos, ◌+ℤ◌, Some, None, Option, ◌==◌, nat_le, slice_index_or}
 use Rattle.samples.specs.Meaning.{reads, silence}
 use Rattle.samples.specs.Kind.{limit}
 use Rattle.samples.specs.Transform.{loudest}
@@ -51,21 +51,21 @@ refusal b d = first (refusals b d)
 -- ys are xs with r added, owed where the sizes stay within the limit of a kind
 pub record Adds (xs r ys : Reception) : Type 0 where
   pub long : length ys ≡ length xs
-  pub reads_as : (i s : ℕ) → i < length xs → s < 4 → (get_or xs i silence).size + (get_or r i silence).size ≤ limit →
+  pub reads_as : (i s : ℕ) → i < length xs → s < 4 → (slice_index_or xs i silence).size + (slice_index_or r i silence).size ≤ limit →
       reads (slice_index_or ys i silence) s ≡ reads (slice_index_or xs i silence) s +ℤ reads (slice_index_or r i silence) s
-  pub grows : (i : ℕ) → i < length xs → (get_or xs i silence).size + (get_or r i silence).size ≤ limit →
-      (get_or ys i silence).size ≤ (get_or xs i silence).size + (get_or r i silence).size
+  pub grows : (i : ℕ) → i < length xs → (slice_index_or xs i silence).size + (slice_index_or r i silence).size ≤ limit →
+      (slice_index_or ys i silence).size ≤ (slice_index_or xs i silence).size + (slice_index_or r i silence).size
 
 -- ys are as many as xs, and each reads 0 and has size 0
 pub record Zeroed (xs ys : Reception) : Type 0 where
   pub long : length ys ≡ length xs
   pub reads_as : (i s : ℕ) → i < length xs → s < 4 → reads (slice_index_or ys i silence) s ≡ pos 0
-  pub none : (i : ℕ) → i < length xs → (get_or ys i silence).size ≡ 0
+  pub none : (i : ℕ) → i < length xs → (slice_index_or ys i silence).size ≡ 0
 
 pub record Fair (d : ℕ) (xs : Reception) : Type 0 where
   pub degree : T (known d)
   pub long : length xs ≡ size (row_of d)
-  pub small : (i : ℕ) → i < length xs → (get_or xs i silence).size ≤ loudest
+  pub small : (i : ℕ) → i < length xs → (slice_index_or xs i silence).size ≤ loudest
 
 abbrev pub leader : Verdict → Leader
 leader v = record { message = v.message; score = v.score; margin = v.margin }

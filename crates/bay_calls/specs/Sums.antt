@@ -1,6 +1,6 @@
 -- A bay's sums, sample by sample, and its plain numbers once it holds nothing.
 --   emptied  a bay's plain numbers once it has let go of all that was held
---   Summed  each sum is as the kind's `add` makes it of the sum before and the reception's sample
+--   Summed   each sum is as the kind's `add` makes it of the sum before and the reception's sample
 use Rattle.std.specs.Prelude.{◌≡◌, ℕ, ◌<◌, List, length, slice_index_or}
 use Rattle.bay_calls.specs.declared.standing.Standing.{Standing}
 use Rattle.bay_calls.specs.declared.standing.Stage.TheVariants.{Gathering}

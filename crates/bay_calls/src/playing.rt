@@ -7,7 +7,7 @@ ghost use Rattle.bay_rules.specs.Lived.{Lived, Deals};
 ghost use Rattle.bay_rules.specs.Steps.{Steps};
 ghost use Rattle.bay.specs.Replay.{made, Carries};
 ghost use Rattle.bay_calls.specs.Seen.{opening, state, delivered, IfDone, IfDenied};
-ghost use Rattle.bay_calls.specs.Played.{part as «part_of», meant, told, handed, written, Beyond, IfNot, Wiped, WorkAfter, WorkLeft, SumsLeft};
+ghost use Rattle.bay_calls.specs.Played.{part as part_of, meant, told, handed, written, Beyond, IfNot, Wiped, WorkAfter, WorkLeft, SumsLeft};
 
 use crate::bays::Bay;
 use crate::verdict::{Refused, Verdict, issue, spend};
@@ -37,7 +37,7 @@ pub enum Answer {
 
 /// The samples of a range of the pool, none where it is no range of it.
 fn part<S: Sample>(pool: &[S], from: usize, to: usize) -> &[S]
-    ensures { result.now ≡ «part_of» pool.now from to }
+    ensures { result.now ≡ part_of pool.now from to }
 {
     if from <= to && to <= pool.len() {
         &pool[from..to]

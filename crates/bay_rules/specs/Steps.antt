@@ -9,7 +9,7 @@
 --   Ends        the same of a dealing whose denial is given
 --   Steps       the same of every dealing; a denied one leaves the state as it was
 --   Opens       a bay as an opening leaves it
-use Rattle.std.specs.Prelude.{◌≡◌, ℕ, ◌<◌, ◌≤◌, true, false, not, ◌&&◌, List, [], ◌∷◌, ◌++◌, length, get_or, Some, None, Option, ◌==◌, slice_index}
+use Rattle.std.specs.Prelude.{◌≡◌, ℕ, ◌<◌, ◌≤◌, true, false, not, ◌&&◌, List, [], ◌∷◌, ◌++◌, length, Some, None, Option, ◌==◌, slice_index, slice_index_or}
 use Rattle.samples.specs.Meaning.{silence}
 use Rattle.samples.specs.Transform.{loudest}
 use Rattle.kerdock.specs.Code.{size}
@@ -42,7 +42,7 @@ refusal b d = first (refusals b d)
 
 pub record Fair (d : ℕ) (book : CodeBook) (xs : Reception) : Type 0 where
   pub book_is : LawfulBook (row_of d) book
-  pub small : (i : ℕ) → i < length xs → (get_or xs i silence).size ≤ loudest
+  pub small : (i : ℕ) → i < length xs → (slice_index_or xs i silence).size ≤ loudest
 
 pub record Leaves (b b' : State) (held : ℕ) (noted : Option Verdict) : Type 0 where
   pub plainly : PlainLeaves (plain b) (plain b') held noted

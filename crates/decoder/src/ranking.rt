@@ -3,10 +3,10 @@ ghost use Rattle.std.specs.Prelude.{◌≡◌, ℕ, ◌+◌, ◌*◌, ◌^◌, �
 ghost use Rattle.samples.specs.Kind.{limit};
 ghost use Rattle.samples.specs.Meaning.{reads};
 ghost use Rattle.samples.specs.Sizes.{Within};
-ghost use Rattle.samples.specs.Transform.{«reading_at»};
+ghost use Rattle.samples.specs.Transform.{reading_at};
 ghost use Rattle.kerdock.specs.Code.{Row, size, messages, sum_to};
 ghost use Rattle.kerdock.specs.Sound.{Sound};
-ghost use Rattle.decoder.specs.Cosets.{bit, message as «message-of»};
+ghost use Rattle.decoder.specs.Cosets.{bit, message as message_of};
 ghost use Rattle.decoder.specs.Visits.{Ranked, Apart, visit, Here};
 
 use samples::Sample;
@@ -70,7 +70,7 @@ fn peak_of<S: Sample>(x: S) -> i32
 
 // The greatest reading of all samples.
 fn peak<S: Sample>(work: &[S]) -> i32
-    ensures { Within S.Sample limit work.now → (v e : ℕ) → v < length work.now → e < 4 → «reading_at» S.Sample work.now v e ≤ℤ result }
+    ensures { Within S.Sample limit work.now → (v e : ℕ) → v < length work.now → e < 4 → reading_at S.Sample work.now v e ≤ℤ result }
 {
     let mut peak = i32::MIN;
     for x in work.iter() {
@@ -112,8 +112,9 @@ fn rank_place<S: Sample>(best: Best, x: S, base: u32) -> Best
 // Ranks the messages of coset u, whose scores the transformed samples read. A coset whose greatest reading cannot change the
 // ranking is passed over whole, and so is such a place.
 pub(crate) fn rank_coset<S: Sample>(best: Best, work: &[S], u: usize) -> Best
-    requires { (length work.now ≤ 128) × (u < 128) }
-    ensures { (row : Row) (f : ℕ → ℤ) → Sound row → length work.now ≡ size row → u < size row → Ranked (messages row) f (visit row) (4 * (u * size row)) best → Within S.Sample limit work.now → ((v e : ℕ) → v < size row → e < 4 → f («message-of» row e u v) ≡ «reading_at» S.Sample work.now v e) → Ranked (messages row) f (visit row) (4 * ((u + 1) * size row)) result }
+    requires few { length work.now ≤ 128 }
+    requires coset { u < 128 }
+    ensures { (row : Row) (f : ℕ → ℤ) → Sound row → length work.now ≡ size row → u < size row → Ranked (messages row) f (visit row) (4 * (u * size row)) best → Within S.Sample limit work.now → ((v e : ℕ) → v < size row → e < 4 → f (message_of row e u v) ≡ reading_at S.Sample work.now v e) → Ranked (messages row) f (visit row) (4 * ((u + 1) * size row)) result }
 {
     if passes_over(best, peak(work)) {
         return best;

@@ -4,8 +4,8 @@ ghost use Rattle.samples.specs.Sizes.{Within};
 ghost use Rattle.samples.specs.Transform.{loudest};
 ghost use Rattle.kerdock.specs.Code.{Row, size, messages, symbol, place};
 ghost use Rattle.kerdock.specs.Sound.{Sound};
-ghost use Rattle.decoder.specs.Cosets.{message as «message-of»};
-ghost use Rattle.decoder.specs.Scores.{score as «score-of»};
+ghost use Rattle.decoder.specs.Cosets.{message as message_of};
+ghost use Rattle.decoder.specs.Scores.{score as score_of};
 ghost use Rattle.decoder.specs.Turnbacks.{Margin};
 ghost use Rattle.decoder.specs.Visits.{visit, Ranked};
 ghost use Rattle.decoder.specs.Search.{meanings, Zeros, Searched};
@@ -56,14 +56,15 @@ fn rank_one<S: Sample>(
     best: Best,
     work: &mut [S],
 ) -> Best
-    requires few { (2 ≤ degree) × (degree ≤ 7) }
+    requires two { 2 ≤ degree }
+    requires seven { degree ≤ 7 }
     requires sums { length sums.now ≡ 2 ^ degree }
     requires long { length work.old ≡ 2 ^ degree }
     requires coset { u < 2 ^ degree }
     requires within { (p : ℕ) → slice_index at.now p < length sums.now }
     requires small { (k : ℕ) → slice_index leaders.now k < 4 }
     ensures long { length work.new ≡ length work.old }
-    ensures ranked { (row : Row) → Sound row → row.degree ≡ degree → Within S.Sample loudest sums.now → ((i : ℕ) → i < size row → slice_index at.now (place row i) ≡ i) → ((i : ℕ) → i < size row → slice_index leaders.now (u * 128 + place row i) ≡ symbol row («message-of» row 0 u 0) i) → Ranked (messages row) («score-of» row (meanings S.Sample sums.now)) (visit row) (4 * (u * size row)) best → Ranked (messages row) («score-of» row (meanings S.Sample sums.now)) (visit row) (4 * ((u + 1) * size row)) result }
+    ensures ranked { (row : Row) → Sound row → row.degree ≡ degree → Within S.Sample loudest sums.now → ((i : ℕ) → i < size row → slice_index at.now (place row i) ≡ i) → ((i : ℕ) → i < size row → slice_index leaders.now (u * 128 + place row i) ≡ symbol row (message_of row 0 u 0) i) → Ranked (messages row) (score_of row (meanings S.Sample sums.now)) (visit row) (4 * (u * size row)) best → Ranked (messages row) (score_of row (meanings S.Sample sums.now)) (visit row) (4 * ((u + 1) * size row)) result }
 {
     lay(sums, at, leaders, u, work);
     let _ = transform_sized(work, degree);

@@ -3,7 +3,7 @@ ghost use Rattle.std.specs.Prelude.{◌≡◌, ℕ, ◌+◌, ◌-◌, ◌*◌, �
 ghost use Rattle.kerdock.specs.Code.{Row, size, symbol, place};
 ghost use Rattle.kerdock.specs.Sound.{Sound};
 ghost use Rattle.kerdock.specs.Books.{Lawful};
-ghost use Rattle.decoder.specs.Cosets.{message as «message-of»};
+ghost use Rattle.decoder.specs.Cosets.{message as message_of};
 ghost use Rattle.decoder.specs.Visits.{times};
 
 use kerdock::books::CodeBook;
@@ -11,7 +11,8 @@ use samples::Sample;
 
 // The index of each place, as a lawful book has it; whatever the book holds, an index below n.
 pub(crate) fn indices(book: &CodeBook, n: usize) -> [u8; 256]
-    requires { (0 < n) × (n ≤ 128) }
+    requires some { 0 < n }
+    requires few { n ≤ 128 }
     ensures below { (p : ℕ) → slice_index result p < n }
     ensures found { (row : Row) → Sound row → size row ≡ n → Lawful row book.now → (i : ℕ) → i < n → slice_index result (place row i) ≡ i }
 {
@@ -24,9 +25,12 @@ pub(crate) fn indices(book: &CodeBook, n: usize) -> [u8; 256]
 
 // The leader of the coset 2 ^ k, by place: the traces k on from each index.
 fn unit_row(book: &CodeBook, n: usize, k: usize, at: &[u8; 256]) -> [u8; 128]
-    requires { (1 < n) × ((n ≤ 128) × ((k < n) × (((p : ℕ) → slice_index at.now p < n)))) }
+    requires some { 1 < n }
+    requires few { n ≤ 128 }
+    requires before { k < n }
+    requires within { (p : ℕ) → slice_index at.now p < n }
     ensures small { (p : ℕ) → slice_index result p < 4 }
-    ensures is { (row : Row) → Sound row → size row ≡ n → k < row.degree → Lawful row book.now → (p : ℕ) → p < n → slice_index result p ≡ symbol row («message-of» row 0 (2 ^ k) 0) (slice_index at.now p) }
+    ensures is { (row : Row) → Sound row → size row ≡ n → k < row.degree → Lawful row book.now → (p : ℕ) → p < n → slice_index result p ≡ symbol row (message_of row 0 (2 ^ k) 0) (slice_index at.now p) }
 {
     let period = n - 1;
     let mut out = [0u8; 128];
@@ -42,7 +46,11 @@ fn unit_row(book: &CodeBook, n: usize, k: usize, at: &[u8; 256]) -> [u8; 128]
 
 // Fills row `from + half` of the leaders as row `from` plus the unit row.
 fn add_row(out: &mut [u8; 16384], from: usize, half: usize, n: usize, unit: &[u8; 128])
-    requires { (from < half) × ((half ≤ 64) × ((n ≤ 128) × ((((k : ℕ) → slice_index out.old k < 4)) × (((p : ℕ) → slice_index unit.now p < 4))))) }
+    requires before { from < half }
+    requires light { half ≤ 64 }
+    requires few { n ≤ 128 }
+    requires small { (k : ℕ) → slice_index out.old k < 4 }
+    requires unit_small { (p : ℕ) → slice_index unit.now p < 4 }
     ensures small { (k : ℕ) → slice_index out.new k < 4 }
     ensures here { (p : ℕ) → p < n → slice_index out.new ((from + half) * 128 + p) ≡ (slice_index out.old (from * 128 + p) + slice_index unit.now p) % 4 }
     ensures elsewhere { (k : ℕ) → k < (from + half) * 128 → slice_index out.new k ≡ slice_index out.old k }
@@ -54,9 +62,12 @@ fn add_row(out: &mut [u8; 16384], from: usize, half: usize, n: usize, unit: &[u8
 
 // The leaders of all cosets, by place: row u holds the word of e = 0 and L(k) = bit k of u.
 pub(crate) fn leaders(book: &CodeBook, n: usize, degree: usize, at: &[u8; 256]) -> [u8; 16384]
-    requires { (n ≡ 2 ^ degree) × ((0 < degree) × ((degree ≤ 7) × (((p : ℕ) → slice_index at.now p < n)))) }
+    requires long { n ≡ 2 ^ degree }
+    requires some { 0 < degree }
+    requires seven { degree ≤ 7 }
+    requires within { (p : ℕ) → slice_index at.now p < n }
     ensures small { (k : ℕ) → slice_index result k < 4 }
-    ensures is { (row : Row) → Sound row → row.degree ≡ degree → Lawful row book.now → (u p : ℕ) → u < n → p < n → slice_index result (u * 128 + p) ≡ symbol row («message-of» row 0 u 0) (slice_index at.now p) }
+    ensures is { (row : Row) → Sound row → row.degree ≡ degree → Lawful row book.now → (u p : ℕ) → u < n → p < n → slice_index result (u * 128 + p) ≡ symbol row (message_of row 0 u 0) (slice_index at.now p) }
 {
     let mut out = [0u8; 16384];
     let mut half = 1;

@@ -1,12 +1,12 @@
 -- The Z4 Kerdock code of one degree d: messages, and their words of N = 2 ^ d symbols modulo 4.
---   row        one degree's line of the table: h, the first traces, the recurrence
+--   row         one degree's line of the table: h, the first traces, the recurrence
 --   ring_trace  the trace of r ^ j, in the ring
---   t          the same as a number
---   digit      a base-4 digit of a message: digit 0 is e, digit k + 1 is L(k)
---   symbol     the word of a message, index by index
---   place      the place of an index
---   size       N
---   messages   how many messages there are
+--   t           the same as a number
+--   digit       a base-4 digit of a message: digit 0 is e, digit k + 1 is L(k)
+--   symbol      the word of a message, index by index
+--   place       the place of an index
+--   size        N
+--   messages    how many messages there are
 use Rattle.std.specs.Prelude.{ℕ, zero, suc, ◌+◌, ◌-◌, ◌*◌, ◌/◌, ◌%◌, ◌^◌, List, [], ◌∷◌, slice_index}
 use Rattle.kerdock.specs.Ring.{power, total}
 

@@ -2,7 +2,7 @@
 --   element      a ring element: its d coefficients, each 0 to 3, lowest power of r first
 --   h            the polynomial, by its d coefficients below the leading 1, lowest first
 --   number       a whole number from 0 to 3 as an element
---   times_root    r times an element
+--   times_root   r times an element
 --   power        r ^ k
 --   combination  a linear combination of elements
 --   frobenius    the Frobenius map, which takes r to r ^ 2

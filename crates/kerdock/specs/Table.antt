@@ -1,8 +1,8 @@
 -- The table: one row a degree.
---   rows   the rows
---   known  whether the table has a row of a degree
+--   rows    the rows
+--   known   whether the table has a row of a degree
 --   row_of  the row of a degree
---   Among  a row stands in a list of rows
+--   Among   a row stands in a list of rows
 use Rattle.std.specs.Prelude.{◌≡◌, ℕ, Bool, true, false, cond, ◌⊎◌, List, [], ◌∷◌, ◌==◌}
 use Rattle.kerdock.specs.Code.{Row}
 

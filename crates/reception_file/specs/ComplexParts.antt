@@ -1,11 +1,15 @@
 -- The parts of the complex kind.
 --
 -- Glossary
---   complex_part     part 0 is re, part 1 is im
---   complex_put      the sample with one of the two changed
---   complex_stored   the laws of a storable kind
-use Rattle.std.specs.Prelude.{◌≡◌, ℕ, zero, suc, ◌<◌, ℤ, ◌≢◌, refl}
+--   complex_part      part 0 is re, part 1 is im
+--   complex_put       the sample with one of the two changed
+--   complex_stored    the laws of a storable kind
+--   complex_read      a part is the reading of the symbol of its number
+--   complex_bounded   no sample is larger than its largest part
+use Rattle.std.specs.Prelude.{◌≡◌, ℕ, zero, suc, ◌<◌, ◌≤◌, ℤ, ◌≢◌, refl, unsigned_abs}
 use Rattle.std.proofs.Common.{ap, ◌∙◌, inl, arith}
+use Rattle.samples.specs.Meaning.{reads}
+use Rattle.samples.specs.ComplexKind.{complex_means}
 use Rattle.samples.specs.declared.complex.Complex.{Complex}
 use Rattle.reception_file.specs.StoredKind.{StoredLaws}
 
@@ -35,3 +39,11 @@ alike x y h = ap (λ a. pair a x.im) (h 0 (omega arith)) ∙ ap (pair y.re) (h 1
 
 pub complex_stored : StoredLaws 1 2 complex_part complex_put
 complex_stored = record { known = inl refl; counted = refl; put_same = put_same; put_other = put_other; alike = alike }
+
+pub complex_read : (x : Complex) (k : ℕ) → k < 2 → complex_part x k ≡ reads (complex_means x) k
+complex_read x zero h = refl
+complex_read x (suc zero) h = refl
+complex_read x (suc (suc k)) h = absurd (omega arith)
+
+pub complex_bounded : (x : Complex) (b : ℕ) → ((k : ℕ) → k < 2 → unsigned_abs (complex_part x k) ≤ b) → (complex_means x).size ≤ b
+complex_bounded x b h = omega (arith, h 0 (omega arith), h 1 (omega arith))

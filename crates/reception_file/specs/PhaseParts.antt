@@ -1,11 +1,15 @@
 -- The parts of the phase kind.
 --
 -- Glossary
---   phase_part     part k is the number of symbol k
---   phase_put      the sample with one of the four changed
---   phase_stored   the laws of a storable kind
-use Rattle.std.specs.Prelude.{◌≡◌, ℕ, zero, suc, ◌<◌, ℤ, ◌≢◌, refl}
+--   phase_part      part k is the number of symbol k
+--   phase_put       the sample with one of the four changed
+--   phase_stored    the laws of a storable kind
+--   phase_read      a part is the reading of the symbol of its number
+--   phase_bounded   no sample is larger than its largest part
+use Rattle.std.specs.Prelude.{◌≡◌, ℕ, zero, suc, ◌<◌, ◌≤◌, ℤ, ◌≢◌, refl, unsigned_abs}
 use Rattle.std.proofs.Common.{ap, ◌∙◌, inr, arith}
+use Rattle.samples.specs.Meaning.{reads}
+use Rattle.samples.specs.PhaseKind.{phase_means}
 use Rattle.samples.specs.declared.phase.Phase.{Phase}
 use Rattle.reception_file.specs.StoredKind.{StoredLaws}
 
@@ -57,3 +61,13 @@ alike x y h =
 
 pub phase_stored : StoredLaws 2 4 phase_part phase_put
 phase_stored = record { known = inr refl; counted = refl; put_same = put_same; put_other = put_other; alike = alike }
+
+pub phase_read : (x : Phase) (k : ℕ) → k < 4 → phase_part x k ≡ reads (phase_means x) k
+phase_read x zero h = refl
+phase_read x (suc zero) h = refl
+phase_read x (suc (suc zero)) h = refl
+phase_read x (suc (suc (suc zero))) h = refl
+phase_read x (suc (suc (suc (suc k)))) h = absurd (omega arith)
+
+pub phase_bounded : (x : Phase) (b : ℕ) → ((k : ℕ) → k < 4 → unsigned_abs (phase_part x k) ≤ b) → (phase_means x).size ≤ b
+phase_bounded x b h = omega (arith, h 0 (omega arith), h 1 (omega arith), h 2 (omega arith), h 3 (omega arith))

@@ -1,7 +1,6 @@
 //! The two kinds of samples, as files hold them.
-ghost use Rattle.reception_file.specs.ComplexParts.{complex_part, complex_put, complex_stored};
-ghost use Rattle.reception_file.specs.PhaseParts.{phase_part, phase_put, phase_stored};
-ghost use Rattle.std.proofs.Common.{arith, rules};
+ghost use Rattle.reception_file.specs.ComplexParts.{complex_part, complex_put, complex_stored, complex_read, complex_bounded};
+ghost use Rattle.reception_file.specs.PhaseParts.{phase_part, phase_put, phase_stored, phase_read, phase_bounded};
 
 use crate::stored::Stored;
 use samples::{Complex, Phase};
@@ -17,9 +16,9 @@ impl Stored for Complex {
 
     ghost laws = { complex_stored };
 
-    ghost reading = { Prim.search rules };
+    ghost reading = { complex_read };
 
-    ghost bounded = { λ x b h. omega (arith, h 0 (omega arith), h 1 (omega arith)) };
+    ghost bounded = { complex_bounded };
 
     fn kind() -> u8 {
         1u8
@@ -56,9 +55,9 @@ impl Stored for Phase {
 
     ghost laws = { phase_stored };
 
-    ghost reading = { Prim.search rules };
+    ghost reading = { phase_read };
 
-    ghost bounded = { λ x b h. omega (arith, h 0 (omega arith), h 1 (omega arith), h 2 (omega arith), h 3 (omega arith)) };
+    ghost bounded = { phase_bounded };
 
     fn kind() -> u8 {
         2u8

@@ -5,7 +5,7 @@
 --   complex_size      the larger of the two absolute values
 --   complex_means     readings and size as one meaning
 --   complex_zero, complex_added, complex_turned, complex_front   what the calls answer
---   wrapped w32 z     the i32 that z is modulo 2 ^ 32
+--   int_wrap w32 z    the i32 that z is modulo 2 ^ 32
 use Rattle.std.specs.Prelude.{ℕ, zero, suc, ◌≤◌, max, ℤ, pos, ◌+ℤ◌, neg_ℤ, unsigned_abs}
 use Rattle.std.proofs.Common.{arith}
 use Rattle.std.proofs.lemmas.Int.{ints}

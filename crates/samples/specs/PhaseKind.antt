@@ -5,7 +5,7 @@
 --   phase_size      the largest of the four absolute values
 --   phase_means     readings and size as one meaning
 --   phase_zero, phase_added, phase_turned, phase_front   what the calls answer
---   wrapped w32 z   the i32 that z is modulo 2 ^ 32
+--   int_wrap w32 z  the i32 that z is modulo 2 ^ 32
 use Rattle.std.specs.Prelude.{ℕ, zero, suc, ◌≤◌, max, ℤ, pos, ◌+ℤ◌, unsigned_abs}
 use Rattle.std.proofs.Common.{arith}
 use Rattle.std.specs.Int.{int_wrap, w32}

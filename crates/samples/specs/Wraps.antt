@@ -1,7 +1,7 @@
 -- Where arithmetic modulo 2 ^ 32 is plain arithmetic.
 --
 -- Glossary
---   wrapped w32 z   the i32 that z is modulo 2 ^ 32
+--   int_wrap w32 z  the i32 that z is modulo 2 ^ 32
 --   limit           the size up to which a kind's steps are exact
 use Rattle.std.specs.Prelude.{◌≡◌, ◌+◌, ◌≤◌, ℤ, ◌+ℤ◌, neg_ℤ, unsigned_abs}
 use Rattle.std.proofs.Common.{arith}

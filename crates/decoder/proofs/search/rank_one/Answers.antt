@@ -9,14 +9,14 @@ use Rattle.decoder.proofs.search.rank_one.Goals as goal
 
 pub lay-requires : goal.lay-requires
 lay-requires g c =
-    let seven : 2 ^ c.args.degree ≤ 2 ^ 7 = pow_mono c.requires.few.1 in
-    let two : 2 ^ 2 ≤ 2 ^ c.args.degree = pow_mono c.requires.few.0 in
+    let seven : 2 ^ c.args.degree ≤ 2 ^ 7 = pow_mono c.requires.seven in
+    let two : 2 ^ 2 ≤ 2 ^ c.args.degree = pow_mono c.requires.two in
     record { some = omega arith; coset = omega arith; room = omega arith; within = c.requires.within; small = c.requires.small }
 
 pub rank_coset-requires : goal.rank_coset-requires
 rank_coset-requires g c =
-    let seven : 2 ^ c.args.degree ≤ 2 ^ 7 = pow_mono c.requires.few.1 in
-    (omega arith, omega arith)
+    let seven : 2 ^ c.args.degree ≤ 2 ^ 7 = pow_mono c.requires.seven in
+    record { few = omega arith; coset = omega arith }
 
 pub returns : goal.returns
 returns g c = record {
@@ -28,7 +28,7 @@ returns g c = record {
       let laid = c.lay.new.work in
       let done = c.transform_sized.new.w in
       let n : size row ≡ 2 ^ c.args.degree = ap (λ (k : ℕ). 2 ^ k) deg in
-      let seven : 2 ^ c.args.degree ≤ 2 ^ 7 = pow_mono c.requires.few.1 in
+      let seven : 2 ^ c.args.degree ≤ 2 ^ 7 = pow_mono c.requires.seven in
       let long : length sums ≡ size row = omega arith in
       let width : length laid ≡ size row = omega arith in
       let turned : Turnback m row u sums laid =
@@ -37,7 +37,7 @@ returns g c = record {
       c.lay.ensures (place row i) (omega arith)
       ∙ ap₂ (λ (s k : ℕ). times m ((4 - s) % 4) (get_or sums k m.zeroed)) (led i b) (found i b) in
       let fits : T c.transform_sized.result =
-      not_failed c.transform_sized.result (λ no. c.transform_sized.ensures.unfit no c.requires.few.1 (omega arith)) in
+      not_failed c.transform_sized.result (λ no. c.transform_sized.ensures.unfit no c.requires.seven (omega arith)) in
       let within = laid_within m row sound u sums laid long width small turned in
       let transformed : Transformed m laid done =
       c.transform_sized.ensures.sums fits loudest within (loudest_fits (length laid) (omega arith)) in

@@ -9,12 +9,12 @@ use Rattle.decoder.proofs.Searching.{sized, score_limit, leader_found}
 use Rattle.decoder.proofs.search.search.Goals as goal
 
 pub indices-at-requires : goal.indices-at-requires
-indices-at-requires g c = let s = sized c.args.degree c.in-Some.n c.in-Some.ensures in (omega arith, omega arith)
+indices-at-requires g c = let s = sized c.args.degree c.in-Some.n c.in-Some.ensures in record { some = omega arith; few = omega arith }
 
 pub leaders-leaders-requires : goal.leaders-leaders-requires
 leaders-leaders-requires g c =
     let s = sized c.args.degree c.in-Some.n c.in-Some.ensures in
-    (s.power, (omega arith, (s.seven, c.indices-at.ensures.below)))
+    record { long = s.power; some = omega arith; seven = s.seven; within = c.indices-at.ensures.below }
 
 pub loop-u-init : goal.loop-u-init
 loop-u-init g c = λ lawful small.
@@ -31,7 +31,8 @@ rank_one-best-requires g c =
     let s = sized c.args.degree c.in-Some.n c.in-Some.ensures in
     let below = c.indices-at.ensures.below in
     record {
-      few = (s.two, s.seven);
+      two = s.two;
+      seven = s.seven;
       sums = omega arith;
       long = omega arith;
       coset = omega arith;

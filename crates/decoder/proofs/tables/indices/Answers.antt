@@ -15,7 +15,7 @@ indexed_more row s at q i e b room h =
     (rw (← e) (rw get_or-set_same))
 
 pub loop-i-init : goal.loop-i-init
-loop-i-init c = (refl, λ p. zeros_below c.args.n 256 p c.requires.0, λ row s e b i h. absurd (omega arith))
+loop-i-init c = (refl, λ p. zeros_below c.args.n 256 p c.requires.some, λ row s e b i h. absurd (omega arith))
 
 pub loop-i-preserved : goal.loop-i-preserved
 loop-i-preserved c =

@@ -6,18 +6,18 @@ use Rattle.decoder.proofs.tables.leaders.Goals.{In-loop-k}
 -- the sizes at a turn
 sizes : (c : In-loop-k) → Turn c.args.n c.loop-k.k c.loop-k.half
 sizes c =
-    turn c.args.n c.args.degree c.loop-k.k c.loop-k.half c.requires.0 c.requires.1.1.0 c.loop-k-test.true c.loop-k.invariant.0
+    turn c.args.n c.args.degree c.loop-k.k c.loop-k.half c.requires.long c.requires.seven c.loop-k-test.true c.loop-k.invariant.0
 
 pub loop-k-init : goal.loop-k-init
 loop-k-init c = (refl, led_none c.args.book.now c.args.n c.args.degree c.args.at.now 16384)
 
 pub unit_row-unit-requires : goal.unit_row-unit-requires
-unit_row-unit-requires c = let z = sizes c in (z.some, (z.few, (z.before, c.requires.1.1.1)))
+unit_row-unit-requires c = let z = sizes c in record { some = z.some; few = z.few; before = z.before; within = c.requires.within }
 
 pub add_row-requires : goal.add_row-requires
 add_row-requires c =
     let z = sizes (goal.at.add_row-requires c).In-loop-k in
-    (c.loop-u-test.true, (z.light, (z.few, (c.loop-u.invariant.small, c.unit_row-unit.ensures.small))))
+    record { before = c.loop-u-test.true; light = z.light; few = z.few; small = c.loop-u.invariant.small; unit_small = c.unit_row-unit.ensures.small }
 
 pub loop-u-preserved : goal.loop-u-preserved
 loop-u-preserved c =
@@ -25,7 +25,7 @@ loop-u-preserved c =
     let made = c.add_row.ensures in
     led_more c.args.book.now c.args.n c.args.degree c.args.at.now c.loop-k.k c.loop-u.u c.loop-k.half
     c.unit_row-unit.result c.loop-u.out c.add_row.new.out
-    c.requires.0 z.few c.loop-k-test.true c.loop-k.invariant.0 c.loop-u-test.true c.unit_row-unit.ensures.is c.loop-u.invariant
+    c.requires.long z.few c.loop-k-test.true c.loop-k.invariant.0 c.loop-u-test.true c.unit_row-unit.ensures.is c.loop-u.invariant
     made.small made.here made.elsewhere
 
 pub loop-k-preserved : goal.loop-k-preserved

@@ -56,7 +56,7 @@ loop-p-preserved c =
     let new = c.if-index-gt0.out in
     let room : p < length old = omega arith in
     let j = i - 1 + k in
-    let within = c.requires.1.1.1 p in
+    let within = c.requires.within p in
     let turn : Written book n k i p old new =
     elim c.if-index-gt0.branch [
       | then-index-gt0 w ↦
