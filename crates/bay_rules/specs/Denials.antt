@@ -12,7 +12,8 @@
 --   number       a denial's number
 --   place        the index that a denial speaks of, or 0
 --   line         a denial as it is printed
-use Rattle.std.specs.Prelude.{ℕ, List, ◌++◌, codes, decimal}
+use Rattle.std.specs.Prelude.{ℕ, List}
+use Rattle.denials.specs.Denied.{told}
 use Rattle.bay_rules.specs.declared.denial.Denial.{Denial}
 use Rattle.bay_rules.specs.declared.denial.Denial.TheVariants.{Shut, VerdictOut, Length, TooLarge, Full, NothingHeld, Work, Misfit}
 
@@ -38,4 +39,4 @@ place Misfit = 0
 
 -- The number, then the place: denied 4 at 3.
 abbrev pub line : Denial → List ℕ
-line e = codes "denied " ++ (decimal (number e) ++ (codes " at " ++ decimal (place e)))
+line e = told (number e) (place e)

@@ -2,7 +2,8 @@
 --   number  the number by which a refusal is known outside
 --   place   the index it points at; 0 where it points at none
 --   line    a refusal as it is printed
-use Rattle.std.specs.Prelude.{ℕ, List, ◌++◌, codes, decimal}
+use Rattle.std.specs.Prelude.{ℕ, List}
+use Rattle.denials.specs.Denied.{told}
 use Rattle.kerdock.specs.declared.refusals.Refusal.{Refusal}
 use Rattle.kerdock.specs.declared.refusals.Refusal.TheVariants.{Degree, Message, Memory, Symbol, NoWord}
 
@@ -22,4 +23,4 @@ place NoWord = 0
 
 -- "denied 12 at 5": the number, then the place, both in decimal
 abbrev pub line : Refusal → List ℕ
-line e = codes "denied " ++ (decimal (number e) ++ (codes " at " ++ decimal (place e)))
+line e = told (number e) (place e)

@@ -2,6 +2,7 @@
 ghost use Rattle.std.specs.Prelude.{◌≡◌, IfOk, Some, string_bytes};
 ghost use Rattle.kerdock.specs.Refusals.{number, place, line};
 
+use denials::Denied;
 use std::alloc::{AllocError, Global};
 use std::fmt;
 
@@ -55,6 +56,7 @@ impl fmt::Display for Refusal {
     fn fmt<W: fmt::Write>(&self, f: &mut fmt::Formatter<W>) -> fmt::Result {
         let number = self.number();
         let place = self.place();
-        write!(f, "denied {number} at {place}")
+        let told = Denied { number, place };
+        write!(f, "{told}")
     }
 }

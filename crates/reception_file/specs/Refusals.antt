@@ -5,7 +5,8 @@
 --   number    a refusal's number
 --   place     the byte that a refusal speaks of, the file's length, or 0
 --   line      a refusal as it is printed
-use Rattle.std.specs.Prelude.{ℕ, List, ◌++◌, codes, decimal}
+use Rattle.std.specs.Prelude.{ℕ, List}
+use Rattle.denials.specs.Denied.{told}
 use Rattle.reception_file.specs.declared.refusal.Refusal.{Refusal}
 use Rattle.reception_file.specs.declared.refusal.Refusal.TheVariants.{Memory, Short, Mark, Version, Kind, Degree, Count, Length, Part, Reception, Room}
 
@@ -37,4 +38,4 @@ place Room = 0
 
 -- The number, then the place: denied 27 at 12.
 abbrev pub line : Refusal → List ℕ
-line e = codes "denied " ++ (decimal (number e) ++ (codes " at " ++ decimal (place e)))
+line e = told (number e) (place e)

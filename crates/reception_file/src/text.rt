@@ -3,6 +3,7 @@ ghost use Rattle.reception_file.specs.Refusals.{line};
 ghost use Rattle.std.specs.Prelude.{Some};
 
 use crate::refusal::Refusal;
+use denials::Denied;
 use std::fmt;
 
 impl fmt::Display for Refusal {
@@ -11,6 +12,7 @@ impl fmt::Display for Refusal {
     fn fmt<W: fmt::Write>(&self, f: &mut fmt::Formatter<W>) -> fmt::Result {
         let number = self.number();
         let place = self.place();
-        write!(f, "denied {number} at {place}")
+        let told = Denied { number, place };
+        write!(f, "{told}")
     }
 }

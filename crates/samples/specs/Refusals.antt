@@ -6,7 +6,8 @@
 --   number    a refusal's number
 --   place     the index that a refusal speaks of, or 0
 --   line      a refusal as it is printed
-use Rattle.std.specs.Prelude.{ℕ, List, ◌++◌, codes, decimal}
+use Rattle.std.specs.Prelude.{ℕ, List}
+use Rattle.denials.specs.Denied.{told}
 use Rattle.samples.specs.declared.refusal.Refusal.{Refusal}
 use Rattle.samples.specs.declared.refusal.Refusal.TheVariants.{Length, Size}
 
@@ -22,4 +23,4 @@ place (Size i) = i
 
 -- The number, then the place: denied 15 at 3.
 abbrev pub line : Refusal → List ℕ
-line e = codes "denied " ++ (decimal (number e) ++ (codes " at " ++ decimal (place e)))
+line e = told (number e) (place e)
