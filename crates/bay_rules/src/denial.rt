@@ -3,7 +3,7 @@ ghost use Rattle.std.specs.Prelude.{◌≡◌};
 ghost use Rattle.bay_rules.specs.Denials.{number, place};
 
 /// Why a dealing was denied.
-#[derive(Clone, Copy)]
+#[derive(Clone, Copy, PartialEq, Eq, Debug)]
 pub enum Denial {
     /// The bay is shut.
     Shut,

@@ -2,7 +2,7 @@
 
 /// What a decision comes to: the degree, how many receptions were held, the message that leads, its score, and its lead
 /// over the best other word.
-#[derive(Clone, Copy)]
+#[derive(Clone, Copy, PartialEq, Eq, Debug)]
 pub struct Numbers {
     pub degree: u8,
     pub held: u8,

@@ -17,7 +17,7 @@ use kerdock::coding::word_length;
 use samples::{Sample, transform_sized};
 
 // The message that leads, its score, and its lead over the best other word.
-#[derive(Clone, Copy)]
+#[derive(Clone, Copy, PartialEq, Eq, Debug)]
 pub struct Leader {
     pub message: u32,
     pub score: i32,

@@ -3,7 +3,7 @@ ghost use Rattle.std.specs.Prelude.{◌≡◌};
 ghost use Rattle.reception_file.specs.Refusals.{number, place};
 
 /// Why a call of this crate was refused.
-#[derive(Clone, Copy)]
+#[derive(Clone, Copy, PartialEq, Eq, Debug)]
 pub enum Refusal {
     /// The memory is not one reception long, or the samples are not as many as the count says.
     Memory,

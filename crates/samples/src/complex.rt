@@ -7,7 +7,7 @@ ghost use Rattle.samples.specs.ComplexLaws.{complex_laws};
 use crate::sample::Sample;
 
 /// A sample of two numbers: symbol 0 reads `re`, 1 `im`, 2 and 3 their opposites.
-#[derive(Clone, Copy)]
+#[derive(Clone, Copy, PartialEq, Eq, Debug)]
 pub struct Complex {
     pub re: i32,
     pub im: i32,

@@ -7,7 +7,7 @@ ghost use Rattle.samples.specs.PhaseLaws.{phase_laws};
 use crate::sample::Sample;
 
 /// A sample of four numbers, one for each symbol.
-#[derive(Clone, Copy)]
+#[derive(Clone, Copy, PartialEq, Eq, Debug)]
 pub struct Phase {
     pub at0: i32,
     pub at1: i32,
