@@ -1,5 +1,3 @@
 pub mod Due
 pub mod Held
-pub mod Verdicts
-pub mod Readings
 pub mod OneOutcome

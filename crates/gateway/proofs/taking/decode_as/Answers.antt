@@ -1,9 +1,10 @@
-use Rattle.std.proofs.Common.{◌≡◌, ℕ, subst, arith}
+use Rattle.std.proofs.Common.{rules, ◌≡◌, ℕ, length, take, subst, arith}
 use Rattle.reception_file.specs.Layout.{at}
 use Rattle.bay.specs.Rules.{holds}
+use Rattle.gateway.specs.Receptions.{samples_at}
 use Rattle.gateway.specs.Partly.{FirstOnes, file_opening}
 use Rattle.gateway.proofs.Due.{free_decide}
-use Rattle.gateway.proofs.taking.decode_with.Goals as goal
+use Rattle.gateway.proofs.taking.decode_as.Goals as goal
 
 pub settle-requires : goal.settle-requires
 settle-requires g c =
@@ -11,11 +12,12 @@ settle-requires g c =
     let a = c.requires.file.0.0 in
     let count = c.requires.heads.2 in
     let some = a.5.0 in
+    let long : length (take c.samples_in-n.result c.args.zeros) ≡ samples_at c.args.bytes.now = search rules in
     record {
       from = file_opening c.args.bytes.now;
       run = k.run;
       lived = k.lived;
-      free = free_decide c.args.bytes.now c.loop-r.r _ k.run a.4 k.none k.first.many (omega arith) c.requires.work;
+      free = free_decide c.args.bytes.now c.loop-r.r _ k.run a.4 k.none k.first.many (omega arith) long;
     }
 
 pub returns : goal.returns
