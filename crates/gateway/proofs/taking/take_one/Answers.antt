@@ -1,4 +1,4 @@
-use Rattle.std.proofs.Common.{ℕ, Result, subst}
+use Rattle.std.proofs.Common.{ℕ, Result, subst, arith}
 use Rattle.reception_file.specs.declared.refusal.Refusal.{Refusal}
 use Rattle.reception_file.specs.Pick.{Picks}
 use Rattle.bay.specs.Rules.Dealing.{Take}
@@ -6,8 +6,17 @@ use Rattle.bay_rules.specs.declared.denial.Denial.{Denial}
 use Rattle.bay_rules.specs.Lived.{Deals}
 use Rattle.decoder.specs.Search.{meanings}
 use Rattle.bay_calls.specs.Seen.{state, counted}
+use Rattle.gateway.proofs.Due.{never_refused}
 use Rattle.gateway.proofs.Held.{took_more, never_denied, ok_unless}
 use Rattle.gateway.proofs.taking.take_one.Goals as goal
+
+pub unwrap-degree-requires : goal.unwrap-degree-requires
+unwrap-degree-requires g c =
+    let inside = c.requires.inside in
+    ok_unless c.pick.result (λ e q.
+        never_refused g.S.Sample g.S.Stored c.args.bytes.now _ _ e
+        (subst (λ (r : Result ℕ Refusal). Picks g.S.Sample g.S.Stored c.args.bytes.now c.args.number c.args.memory.now r c.pick.new.memory) q c.pick.ensures.picks).0
+        c.requires.file c.requires.kind (omega arith) c.requires.long)
 
 pub unwrap-held-requires : goal.unwrap-held-requires
 unwrap-held-requires g c =
