@@ -46,7 +46,8 @@ pub(crate) fn passes<S: Sample>(w: &mut [S], degree: usize)
 {
     let mut h = 1;
     for _ in 0..degree {
-        pass(w, h, w.len() / (2 * h));
-        h *= 2;
+        let width = 2 * h;
+        pass(w, h, w.len() / width);
+        h = width;
     }
 }
