@@ -29,6 +29,7 @@ impl Complex {
     }
 }
 
+#[tactic(auto, using(std::proofs::lemmas::Int::wraps))]
 impl Sample for Complex {
     ghost means = { complex_means };
 

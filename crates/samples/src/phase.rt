@@ -31,6 +31,7 @@ impl Phase {
     }
 }
 
+#[tactic(auto, using(std::proofs::lemmas::Int::wraps))]
 impl Sample for Phase {
     ghost means = { phase_means };
 
