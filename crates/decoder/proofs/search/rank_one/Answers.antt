@@ -1,10 +1,10 @@
-use Rattle.std.proofs.Common.{◌≡◌, ℕ, ◌-◌, ◌%◌, ◌^◌, ◌≤◌, T, length, get_or, ap, ◌∙◌, ap₂, arith, pow_mono}
+use Rattle.std.proofs.Common.{◌≡◌, ℕ, ◌-◌, ◌%◌, ◌^◌, ◌≤◌, length, get_or, ap, ◌∙◌, ap₂, arith, pow_mono}
 use Rattle.samples.specs.Transform.{loudest, Transformed}
 use Rattle.kerdock.specs.Code.{size, place}
 use Rattle.decoder.specs.Scores.{score}
 use Rattle.decoder.specs.Search.{meanings}
 use Rattle.decoder.specs.Visits.{Turnback, times}
-use Rattle.decoder.proofs.Laying.{not_failed, coset_reads, coset_within, laid_within, loudest_fits}
+use Rattle.decoder.proofs.Laying.{not_refused, coset_reads, coset_within, laid_within, loudest_fits}
 use Rattle.decoder.proofs.search.rank_one.Goals as goal
 
 pub lay-requires : goal.lay-requires
@@ -36,11 +36,10 @@ returns g c = record {
       let w = sound.within i b in
       c.lay.ensures (place row i) (omega arith)
       ∙ ap₂ (λ (s k : ℕ). times m ((4 - s) % 4) (get_or sums k m.zeroed)) (led i b) (found i b) in
-      let fits : T c.transform_sized.result =
-      not_failed c.transform_sized.result (λ no. c.transform_sized.ensures.unfit no c.requires.seven (omega arith)) in
       let within = laid_within m row sound u sums laid long width small turned in
       let transformed : Transformed m laid done =
-      c.transform_sized.ensures.sums fits loudest within (loudest_fits (length laid) (omega arith)) in
+      not_refused c.transform_sized.result c.transform_sized.ensures.unfit (λ no. no c.requires.seven (omega arith)) c.transform_sized.ensures.sums
+      loudest within (loudest_fits (length laid) (omega arith)) in
       c.rank_coset.ensures row (score row (meanings m sums)) sound (transformed.long ∙ width) (omega arith) ranked
       (coset_within m row sound u sums laid long width small turned done transformed)
       (coset_reads m row sound u sums laid long width small turned done transformed);
