@@ -24,16 +24,13 @@ fn sum_digits(count: u8, first: u32, second: u32) -> u32
     sum
 }
 
-// The message whose word is the sum of two messages' words.
+/// The message whose word is the sum of two messages' words.
 pub fn add_messages(degree: u8, first: u32, second: u32) -> Result<u32, Refusal>
     ensures answer { result ≡ adds degree first second }
     ensures words_add { WordsAdd degree first second result }
 {
-    let Some(row) = row_of(degree) else {
-        return Err(Refusal::Degree);
-    };
-    let length = row.length as u32;
-    let messages = 4 * length * length;
+    let row = row_of(degree).ok_or(Refusal::Degree)?;
+    let messages = row.messages();
     if first >= messages || second >= messages {
         return Err(Refusal::Message);
     }
