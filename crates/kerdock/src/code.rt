@@ -60,7 +60,7 @@ impl Code {
         ensures found { place (row_of self.now.row.degree) result ≡ wanted }
     {
         let places = &self.book.places[..self.row.length];
-        places.iter().position(|place| *place == wanted).unwrap()
+        places.iter().position(|&place| place == wanted).unwrap()
     }
 
     // How far the list lies above the word of `known` at the index whose place is one bit, read as one bit for each bit of a place:
@@ -104,6 +104,6 @@ impl Code {
     {
         list.iter()
             .enumerate()
-            .all(|(i, symbol)| *symbol == self.symbol(message, i))
+            .all(|(i, &symbol)| symbol == self.symbol(message, i))
     }
 }

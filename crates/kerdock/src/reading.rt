@@ -10,7 +10,7 @@ use crate::rows::row_of;
 fn first_above(list: &[u8]) -> Option<usize>
     ensures { MatchOption result ((k : ℕ) → slice_index list.now k ≤ 3) (λ i. FirstAbove list.now i) }
 {
-    list.iter().position(|symbol| *symbol > 3)
+    list.iter().position(|&symbol| symbol > 3)
 }
 
 /// The message whose word the list is.

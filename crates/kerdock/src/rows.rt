@@ -30,7 +30,7 @@ impl TableRow {
         ensures { result ≡ sum_to (λ k. slice_index self.now.rule.now k * slice_index before.now k) self.now.degree % 4 }
     {
         let mut sum: u8 = 0;
-        for (rule, trace) in self.rule.iter().zip(before) {
+        for (&rule, &trace) in self.rule.iter().zip(before) {
             sum += rule * trace;
         }
         sum % 4
