@@ -77,11 +77,9 @@ impl<'a> Traces<'a> {
         requires { j < period (row_of self.now.row.now.degree) }
         ensures { result ≡ place (row_of self.now.row.now.degree) (suc j) }
     {
-        let mut place: u8 = 0;
-        let mut weight: u8 = 1;
-        for k in 0..usize::from(self.row.degree) {
-            place += weight * (self.at(j + k) % 2);
-            weight *= 2;
+        let mut place = 0;
+        for k in 0..self.row.degree {
+            place += (self.at(j + k) % 2) << k;
         }
         place
     }

@@ -6,6 +6,7 @@ ghost use Rattle.kerdock.specs.Books.{Lawful};
 ghost use Rattle.kerdock.specs.Calls.{Spells};
 
 use crate::books::{CodeBook, Traces};
+use crate::messages::digit;
 use crate::rows::TableRow;
 
 // A row of the table and its book.
@@ -30,15 +31,13 @@ impl Code {
         requires { index < size (row_of self.now.row.degree) }
         ensures { result ≡ symbol (row_of self.now.row.degree) message index }
     {
-        let mut sum = (message % 4) as u8;
+        let mut sum = digit(message, 0);
         if index == 0 {
             return sum;
         }
         let traces = Traces::new(&self.row, &self.book.traces);
-        let mut rest = message / 4;
-        for k in 0..usize::from(self.row.degree) {
-            sum += (rest % 4) as u8 * traces.at(index - 1 + k);
-            rest /= 4;
+        for k in 0..self.row.degree {
+            sum += digit(message, k + 1) * traces.at(index - 1 + k);
         }
         sum % 4
     }
@@ -72,15 +71,11 @@ impl Code {
         ensures bound { 3 * result + 4 ≤ 4 ^ suc self.now.row.degree }
         ensures bits { (bit : ℕ → ℕ) → ((k i : ℕ) → k < self.now.row.degree → i < size (row_of self.now.row.degree) → place (row_of self.now.row.degree) i ≡ 2 ^ k → (slice_index list.now i + 4 - symbol (row_of self.now.row.degree) known i) % 4 / divisor % 2 ≡ bit k) → result ≡ sum_to (λ k. 4 ^ suc k * bit k) self.now.row.degree }
     {
-        let mut sum: u32 = 0;
-        let mut weight: u32 = 4;
-        let mut place: u8 = 1;
-        for _ in 0..self.row.degree {
-            let at = self.index_of(place);
+        let mut sum = 0;
+        for k in 0..self.row.degree {
+            let at = self.index_of(1 << k);
             let above = (list[at] + 4 - self.symbol(known, at)) % 4;
-            sum += weight * u32::from(above / divisor % 2);
-            weight *= 4;
-            place *= 2;
+            sum += u32::from(above / divisor % 2) << (2 * (k + 1));
         }
         sum
     }

@@ -7,7 +7,7 @@ ghost use Rattle.kerdock.specs.Rows.{RowIs};
 // One degree: N, the first traces, and the coefficients of the recurrence, lowest first, as many of each as the degree says.
 #[derive(Clone, Copy)]
 pub(crate) struct TableRow {
-    pub(crate) degree: u8,
+    pub(crate) degree: usize,
     pub(crate) length: usize,
     pub(crate) first: &'static [u8],
     pub(crate) rule: &'static [u8],

@@ -1,17 +1,17 @@
-use Rattle.std.proofs.Common.{◌≡◌, ℕ, suc, ◌+◌, ◌-◌, ◌*◌, ◌/◌, ◌%◌, ◌^◌, ◌≤◌, refl, ap, ◌∙◌, ap₂, mod-lt, add-one, arith}
+use Rattle.std.proofs.Common.{◌≡◌, ℕ, suc, ◌+◌, ◌-◌, ◌*◌, ◌%◌, ◌≤◌, sym, refl, ap, ◌∙◌, ap₂, mod-lt, add-one, arith}
 use Rattle.kerdock.specs.Code.{t, sum_to, digit}
 use Rattle.kerdock.specs.Table.{row_of}
 use Rattle.kerdock.specs.declared.rows.TableRow.{TableRow}
 use Rattle.kerdock.proofs.Sums.{sum_step}
 use Rattle.kerdock.proofs.RowFacts.{row_facts, small_product}
-use Rattle.kerdock.proofs.Symbols.{digit_first, digits_gone, symbol_first, symbol_after}
+use Rattle.kerdock.proofs.Symbols.{digit_first, symbol_first, symbol_after}
 use Rattle.kerdock.proofs.code.Code.symbol.Goals as goal
 
 pub returns-then-index-eq0 : goal.returns-then-index-eq0
-returns-then-index-eq0 c = symbol_first (row_of c.args.self.now.row.degree) c.args.message c.args.index (omega arith)
+returns-then-index-eq0 c = c.digit-sum.ensures ∙ sym (digit_first c.args.message) ∙ symbol_first (row_of c.args.self.now.row.degree) c.args.message c.args.index (omega arith)
 
 pub loop-k-init : goal.loop-k-init
-loop-k-init c = let e = digit_first c.args.message in (omega arith, omega arith, omega arith)
+loop-k-init c = let e = digit_first c.args.message in (omega (arith, c.digit-sum.ensures), omega (arith, c.digit-sum.ensures))
 
 pub overflow_add-index : goal.overflow_add-index
 overflow_add-index c = let f = row_facts c.args.self.now.row in omega (arith, c.requires)
@@ -25,39 +25,39 @@ at-requires c =
 trace_is : (c : goal.After-at) → c.at.result ≡ t (row_of c.args.self.now.row.degree) (c.args.index - 1 + c.loop-k.k)
 trace_is c = c.at.ensures ∙ ap (λ (r : TableRow). t (row_of r.degree) (c.args.index - 1 + c.loop-k.k)) c.new-traces.ensures
 
--- one digit times one trace is at most 9
-small_term : (c : goal.After-at) → c.loop-k.rest % 4 * c.at.result ≤ 9
-small_term c =
+pub digit-requires : goal.digit-requires
+digit-requires c = let f = row_facts c.args.self.now.row in omega arith
+
+-- one digit times one trace, which is at most 9
+term_is : (c : goal.After-at) →
+    (c.digit.result * c.at.result ≡ digit c.args.message (suc c.loop-k.k) * t (row_of c.args.self.now.row.degree) (c.args.index - 1 + c.loop-k.k))
+    × (c.digit.result * c.at.result ≤ 9)
+term_is c =
     let f = row_facts c.args.self.now.row in
+    let d = c.digit.ensures ∙ ap (digit c.args.message) (add-one c.loop-k.k) in
     let e = trace_is c in
-    let s = f.sound.symbols (c.args.index - 1 + c.loop-k.k) in
-    small_product _ _ (mod-lt _ (omega arith)) (omega arith)
+    (ap₂ ◌*◌ d e, small_product _ _ (rw d (mod-lt _ (omega arith))) (rw e (f.sound.symbols (c.args.index - 1 + c.loop-k.k))))
 
 pub overflow_mul-sum : goal.overflow_mul-sum
-overflow_mul-sum c = let s = small_term c in omega arith
+overflow_mul-sum c = let s = term_is c in omega arith
 
 pub overflow_add-sum : goal.overflow_add-sum
 overflow_add-sum c =
-    let s = small_term c in
+    let s = term_is c in
     let f = row_facts c.args.self.now.row in omega arith
 
 pub loop-k-preserved : goal.loop-k-preserved
 loop-k-preserved c =
     let row = row_of c.args.self.now.row.degree in
-    let m = c.args.message in
     let k = c.loop-k.k in
-    let s = small_term c in
-    let term : ℕ → ℕ = λ l. digit m (suc l) * t row (c.args.index - 1 + l) in
-    let e : c.loop-k.rest % 4 * c.at.result ≡ term k =
-    ap₂ (λ (x y : ℕ). x % 4 * y) (c.loop-k.invariant.0 ∙ ap (λ (x : ℕ). m / 4 ^ x) (add-one k)) (trace_is c) in
-    let more = sum_step term (sum_to term k) k refl in
-    let i = c.loop-k.invariant.1 in
-    (ap (λ (x : ℕ). x / 4) c.loop-k.invariant.0 ∙ digits_gone m (k + 1), omega arith, omega arith)
+    let s = term_is c in
+    let term : ℕ → ℕ = λ l. digit c.args.message (suc l) * t row (c.args.index - 1 + l) in
+    let more = sum_step term (sum_to term k) k refl in (omega arith, omega arith)
 
 pub returns : goal.returns
 returns c =
     let f = row_facts c.args.self.now.row in
     let row = row_of c.args.self.now.row.degree in
     let n : c.loop-k.k ≡ row.degree = omega arith in
-    ap (λ (x : ℕ). x % 4) (c.loop-k.invariant.1 ∙ ap (λ (x : ℕ). digit c.args.message 0 + sum_to (λ k. digit c.args.message (suc k) * t row (c.args.index - 1 + k)) x) n)
+    ap (λ (x : ℕ). x % 4) (c.loop-k.invariant.0 ∙ ap (λ (x : ℕ). digit c.args.message 0 + sum_to (λ k. digit c.args.message (suc k) * t row (c.args.index - 1 + k)) x) n)
     ∙ symbol_after row c.args.message c.args.index (omega arith)
