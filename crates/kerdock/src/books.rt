@@ -8,6 +8,7 @@ use crate::refusals::Refusal;
 use crate::rows::{TableRow, row_of};
 
 /// A plain record: any values may stand in it, and a lawful one holds a degree's N - 1 traces and N places, then zeros.
+// stays: two arrays as long as the largest degree needs, filled in the caller's place with no heap
 #[derive(Clone, Copy)]
 pub struct CodeBook {
     pub traces: [u8; 127],
@@ -78,6 +79,7 @@ impl<'a> Traces<'a> {
         ensures { result ≡ place (row_of self.now.row.now.degree) (suc j) }
     {
         let mut place = 0;
+        // stays: the traces are counted round, so there is no slice to go along
         for k in 0..self.row.degree {
             place += (self.at(j + k) % 2) << k;
         }

@@ -36,6 +36,7 @@ impl Code {
             return sum;
         }
         let traces = Traces::new(&self.row, &self.book.traces);
+        // stays: the traces are counted round, so there is no slice to go along
         for k in 0..self.row.degree {
             sum += digit(message, k + 1) * traces.at(index - 1 + k);
         }

@@ -20,6 +20,7 @@ fn sum_digits(count: usize, first: u32, second: u32) -> u32
     ensures { result ≡ sum_to (λ k. 4 ^ k * ((digit first k + digit second k) % 4)) count }
 {
     let mut sum = 0;
+    // stays: that the sum fits rests on the digits so far, which a loop keeps and a chain with `sum` does not
     for k in 0..count {
         sum += u32::from((digit(first, k) + digit(second, k)) % 4) << (2 * k);
     }

@@ -44,6 +44,7 @@ impl TableRow {
         let degree = self.first.len();
         *traces = [0; 127];
         traces[..degree].copy_from_slice(self.first);
+        // stays: each trace is worked out from those just before it in the same array, so the loop goes by index
         for j in degree..self.length - 1 {
             traces[j] = self.next_trace(&traces[j - degree..j]);
         }
