@@ -9,7 +9,7 @@ ghost use Rattle.bay_rules.specs.Steps.{Steps};
 ghost use Rattle.bay_calls.specs.Seen.{five, stands, seen, state, accepted, let_go, IfDone, IfDenied, Back};
 ghost use Rattle.bay_calls.specs.Admission.{Answered};
 
-use crate::admission::{Call, admit};
+use crate::admission::Call;
 use crate::bays::Bay;
 use crate::standing::{Stage, Standing};
 use crate::sums::empty;
@@ -22,7 +22,7 @@ use samples::Sample;
 fn answer(stage: Stage, verdict: Verdict) -> Result<Numbers, Refused>
     ensures { Answered stage verdict result }
 {
-    match admit(stage, Call::Answer(verdict.numbers())) {
+    match stage.admit(Call::Answer(verdict.numbers())) {
         Ok(()) => Ok(spend(verdict)),
         Err(why) => Err(Refused { why, verdict }),
     }

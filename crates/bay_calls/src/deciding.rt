@@ -5,7 +5,7 @@ ghost use Rattle.bay_rules.specs.Lived.{Deals, OnlyTheScore};
 ghost use Rattle.bay_rules.specs.Steps.{Steps};
 ghost use Rattle.bay_calls.specs.Seen.{seen, state, decided, delivered, IfDenied, Worked};
 
-use crate::admission::{Call, admit};
+use crate::admission::Call;
 use crate::bays::Bay;
 use crate::standing::{Stage, Standing};
 use crate::sums::look;
@@ -26,7 +26,7 @@ fn decide_on<S: Sample>(
     ensures worked { Worked S.Sample result work.old work.new }
     ensures unmoved { IfDenied result (standing.new ≡ standing.old) }
 {
-    if let Err(e) = admit(standing.stage, Call::Decide) {
+    if let Err(e) = standing.stage.admit(Call::Decide) {
         return Err(e);
     }
     if standing.held == 0 {

@@ -7,7 +7,7 @@ ghost use Rattle.bay_rules.specs.Steps.{Steps};
 ghost use Rattle.bay_calls.specs.Sums.{Summed};
 ghost use Rattle.bay_calls.specs.Seen.{seen, state, counted, IfDone, IfDenied};
 
-use crate::admission::{Call, admit};
+use crate::admission::Call;
 use crate::bays::Bay;
 use crate::standing::Standing;
 use crate::sums::{add_into, empty};
@@ -25,7 +25,7 @@ fn take_in<S: Sample>(
     ensures summed { IfDone result (Summed S.Sample sums.old reception.now sums.new) }
     ensures unmoved { IfDenied result ((standing.new ≡ standing.old) × (sums.new ≡ sums.old)) }
 {
-    if let Err(e) = admit(standing.stage, Call::Take) {
+    if let Err(e) = standing.stage.admit(Call::Take) {
         return Err(e);
     }
     if reception.len() != sums.len() {
@@ -48,7 +48,7 @@ fn clear_out<S: Sample>(standing: &mut Standing, sums: &mut [S]) -> Result<u8, D
     ensures zeros { IfDone result (Zeros S.Sample sums.old sums.new) }
     ensures unmoved { IfDenied result ((standing.new ≡ standing.old) × (sums.new ≡ sums.old)) }
 {
-    if let Err(e) = admit(standing.stage, Call::Clear) {
+    if let Err(e) = standing.stage.admit(Call::Clear) {
         return Err(e);
     }
     let held = standing.held;
