@@ -34,28 +34,20 @@ impl<'a, S: Sample> Bay<'a, S> {
         ensures lived { Lived (opening degree (length memory.old)) Opened (state S.Sample result) }
     {
         let mut book = CodeBook::blank();
-        match word_length(degree) {
-            Some(n) if n == memory.len() => {
-                let _ = make_book(degree, &mut book);
-                clean(memory);
-                Bay {
-                    sums: memory,
-                    book,
-                    standing: Standing {
-                        degree,
-                        held: 0,
-                        stage: Stage::Gathering,
-                    },
-                }
-            }
-            _ => Bay {
-                sums: memory,
-                book,
-                standing: Standing {
-                    degree,
-                    held: 0,
-                    stage: Stage::Shut,
-                },
+        let stage = if word_length(degree) == Some(memory.len()) {
+            let _ = make_book(degree, &mut book);
+            clean(memory);
+            Stage::Gathering
+        } else {
+            Stage::Shut
+        };
+        Bay {
+            sums: memory,
+            book,
+            standing: Standing {
+                degree,
+                held: 0,
+                stage,
             },
         }
     }
