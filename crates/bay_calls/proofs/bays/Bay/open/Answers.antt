@@ -30,7 +30,7 @@ opened g c =
     let xs = c.args.memory.now in
     let o = opening c.args.degree (length xs) in
     let asked : (t : Bool) → c.eq.result ≡ t → option_eq eqb (cond (known c.args.degree) (Some (size (row_of c.args.degree))) None) (Some (length xs)) ≡ t =
-        λ t e. ap (λ (n : Option ℕ). option_eq eqb n (Some (length xs))) (sym c.word_length.ensures) ∙ sym c.eq.ensures ∙ e in
+    λ t e. ap (λ (n : Option ℕ). option_eq eqb n (Some (length xs))) (sym c.word_length.ensures) ∙ sym c.eq.ensures ∙ e in
     elim c.if-eq.branch [
       | then-eq w ↦ rw (w.memory-is, w.book-is, w.stage-is)
           (opens o (length xs) _ (meanings m xs) _ (found (known c.args.degree) _ _ (asked true w.if-eq.true)) refl (as_many m xs)
