@@ -106,8 +106,9 @@ fn play_all<S: Sample>(
     ensures lent { bay.new.sums.ghost_name ≡ bay.old.sums.ghost_name }
 {
     let n = dealings.len().min(answers.len());
-    for i in 0..n {
-        answers[i] = play_one(bay, work, pool, dealings[i]);
+    // stays: the answers go by index, since of a zip over iter_mut a proof knows no answer that it leaves
+    for (i, dealing) in dealings[..n].iter().enumerate() {
+        answers[i] = play_one(bay, work, pool, *dealing);
     }
     n
 }
