@@ -41,11 +41,7 @@ pub type Answer = Result<Reply, Denial>;
 fn part<S: Sample>(pool: &[S], from: usize, to: usize) -> &[S]
     ensures { result.now ≡ part_of pool.now from to }
 {
-    if from <= to && to <= pool.len() {
-        &pool[from..to]
-    } else {
-        &pool[0..0]
-    }
+    pool.get(from..to).unwrap_or_default()
 }
 
 /// A decision with the first samples of the work memory.
