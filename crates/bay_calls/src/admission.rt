@@ -22,15 +22,9 @@ impl Stage {
         match (self, call) {
             (Stage::Shut, _) => Err(Denial::Shut),
             (Stage::Gathering, Call::Take | Call::Decide | Call::Clear) => Ok(()),
-            (Stage::Gathering, Call::Answer(_)) => Err(Denial::Misfit),
             (Stage::Waiting(_), Call::Take | Call::Decide | Call::Clear) => Err(Denial::VerdictOut),
-            (Stage::Waiting(noted), Call::Answer(given)) => {
-                if given == noted {
-                    Ok(())
-                } else {
-                    Err(Denial::Misfit)
-                }
-            }
+            (Stage::Waiting(noted), Call::Answer(given)) if given == noted => Ok(()),
+            (Stage::Gathering | Stage::Waiting(_), Call::Answer(_)) => Err(Denial::Misfit),
         }
     }
 }

@@ -35,7 +35,7 @@ impl<'a, S: Sample> Bay<'a, S> {
     {
         let mut book = CodeBook::blank();
         let stage = if word_length(degree) == Some(memory.len()) {
-            let _ = make_book(degree, &mut book);
+            make_book(degree, &mut book).unwrap();
             clean(memory);
             Stage::Gathering
         } else {

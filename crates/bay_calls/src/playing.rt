@@ -16,7 +16,7 @@ use samples::Sample;
 
 /// One dealing of a list. A reception is a range of a pool of samples; the work memory of a decision is the first so many
 /// samples of the memory that is lent for it, or all where there are fewer; a verdict stands by its five numbers.
-#[derive(Clone, Copy)]
+#[derive(Clone, Copy, PartialEq, Eq, Debug)]
 pub enum Dealing {
     Take { from: usize, to: usize },
     Decide { work: usize },
@@ -55,7 +55,7 @@ fn decide_part<S: Sample>(bay: &mut Bay<S>, work: &mut [S], n: usize) -> Result<
     ensures untouched { IfDenied result (work.new ≡ work.old) }
     ensures lent { bay.new.sums.ghost_name ≡ bay.old.sums.ghost_name }
 {
-    bay.decide(&mut work[0..n])
+    bay.decide(&mut work[..n])
 }
 
 /// The reason of a refusal; the verdict that came back ends here, and its numbers are still in the list.
