@@ -19,6 +19,7 @@ impl Stage {
     pub(crate) fn admit(self, call: Call) -> Result<(), Denial>
         ensures { result ≡ admitted self call }
     {
+        // stays: the stage is matched together with the call that arrives, so that each pair has its line
         match (self, call) {
             (Stage::Shut, _) => Err(Denial::Shut),
             (Stage::Gathering, Call::Take | Call::Decide | Call::Clear) => Ok(()),

@@ -20,6 +20,7 @@ impl Stage {
     fn answer(self, verdict: Verdict) -> Result<Numbers, Refused>
         ensures { Answered self verdict result }
     {
+        // stays: both arms use the verdict up, and a closure for map_err would take it from the first
         match self.admit(Call::Answer(verdict.numbers())) {
             Ok(()) => Ok(spend(verdict)),
             Err(why) => Err(Refused { why, verdict }),

@@ -41,6 +41,7 @@ impl<'a, S: Sample> Bay<'a, S> {
         }
         // no bay that was opened comes to this denial
         let leader = self.look(work).ok_or(Denial::Shut)?;
+        // stays: no From makes the numbers, since two of them are the bay's and three are the search's
         let numbers = Numbers {
             degree: self.standing.degree,
             held: self.standing.held,

@@ -26,6 +26,7 @@ impl<'a, S: Sample> Bay<'a, S> {
         if reception.len() != self.sums.len() {
             return Err(Denial::Length);
         }
+        // stays: what is found is the denial's place, and a map_or with a ? in its place says it in no plainer way
         if let Some(i) = first_above(reception, 32767) {
             return Err(Denial::TooLarge(i));
         }

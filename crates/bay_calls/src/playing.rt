@@ -59,6 +59,7 @@ fn decide_part<S: Sample>(bay: &mut Bay<S>, work: &mut [S], n: usize) -> Result<
 }
 
 /// The reason of a refusal; the verdict that came back ends here, and its numbers are still in the list.
+// stays: a From would let any crate drop the verdict of a refusal by a ?, so the reason is handed to map_err
 fn reason(refused: Refused) -> Denial
     ensures { result ≡ refused.why }
 {

@@ -1,5 +1,6 @@
 //! Calls on a bay whose verdict is in hand. The verdict that is out is surely taken by its own bay, and until it is, take,
 //! decide and clear are surely denied; so no case is left over here.
+// stays: six calls and six functions, since each is proved from what its own call ensures
 ghost use Rattle.bay_calls.specs.Seen.{state};
 ghost use Rattle.bay_examples.specs.Owing.{Out, Owed};
 
