@@ -1,4 +1,4 @@
-use Rattle.std.proofs.Common.{◌≡◌, ℕ, ◌-◌, ◌≤◌, length, take, sym, ◌∙◌, subst, arith, length-take-le}
+use Rattle.std.proofs.Common.{◌≡◌, ℕ, ◌≤◌, length, take, subst, arith, length-take-le}
 use Rattle.bay.specs.Rules.Dealing.{Decide}
 use Rattle.bay_rules.specs.Steps.{Steps}
 use Rattle.bay_calls.specs.Seen.{state, delivered}

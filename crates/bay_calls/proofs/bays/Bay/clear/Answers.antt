@@ -1,6 +1,5 @@
-use Rattle.std.proofs.Common.{◌≡◌, ℕ, sym, refl, subst}
+use Rattle.std.proofs.Common.{ℕ, sym, refl, subst}
 use Rattle.bay_calls.specs.declared.admission.Call.TheVariants.{Clear}
-use Rattle.bay_calls.specs.declared.standing.Stage.TheVariants.{Gathering}
 use Rattle.bay.specs.Rules.Answer.{Counted}
 use Rattle.bay.specs.Rules.Dealing.{Clear as Clearing}
 use Rattle.bay_rules.specs.Steps.{Steps}
@@ -9,7 +8,7 @@ use Rattle.bay_calls.specs.Seen.{seen}
 use Rattle.bay_calls.proofs.Means.{zero_means}
 use Rattle.bay_rules.proofs.Living.{deals}
 use Rattle.bay_rules.proofs.Settling.{clears}
-use Rattle.bay_calls.proofs.Stages.{only_gathering, gathers, leaves_empty}
+use Rattle.bay_calls.proofs.Stages.{gathers, leaves_empty}
 use Rattle.bay_calls.proofs.bays.Bay.clear.Goals as goal
 
 pub returns : goal.returns
@@ -18,8 +17,7 @@ returns g c =
     let b = c.args.self.now in
     let r = b.standing in
     let xs = b.sums.now in
-    let at : r.stage ≡ Gathering = only_gathering (λ s. admitted s Clear) refl (λ v. refl) r.stage _ c.in_ok-admit.ensures in
-    let gs = gathers m r b.book xs at in
+    let gs = gathers m b (λ s. admitted s Clear) refl (λ v. refl) _ c.in_ok-admit.ensures in
     let p = c.empty.ensures in
     let done = subst (λ (n : ℕ). Steps (seen m r b.book xs) Clearing (Counted n) (seen m c.empty.new.self b.book c.empty.new.sums)) (sym p.held)
     (clears (seen m r b.book xs) _ gs (leaves_empty m r _ b.book xs _ gs.up p.standing) (zero_means m xs _ p.zeros)) in

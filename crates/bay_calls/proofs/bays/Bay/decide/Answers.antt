@@ -1,9 +1,9 @@
-use Rattle.std.proofs.Common.{◌≡◌, length, Option, ℤ, sym, refl, ◌∙◌, subst, to_z-of_z, w32, SFits, to_z, of_z, rules}
+use Rattle.std.proofs.Common.{length, Option, ℤ, sym, refl, ◌∙◌, subst, to_z-of_z, w32, SFits, to_z, of_z, rules}
 use Rattle.decoder.specs.declared.search.Leader.{Leader}
 use Rattle.kerdock.specs.Table.{row_of}
 use Rattle.decoder.specs.Search.{Found, Searched}
 use Rattle.bay_calls.specs.declared.admission.Call.TheVariants.{Decide}
-use Rattle.bay_calls.specs.declared.standing.Stage.TheVariants.{Gathering, Waiting}
+use Rattle.bay_calls.specs.declared.standing.Stage.TheVariants.{Waiting}
 use Rattle.bay_rules.specs.declared.numbers.Numbers.{Numbers}
 use Rattle.bay_calls.specs.Admission.{admitted}
 use Rattle.bay.specs.Rules.{Verdict}
@@ -16,7 +16,7 @@ use Rattle.bay_calls.proofs.Means.{as_many}
 use Rattle.bay_rules.proofs.Living.{deals}
 use Rattle.bay_rules.proofs.Replaying.{only_the_score}
 use Rattle.bay_rules.proofs.Settling.{decides}
-use Rattle.bay_calls.proofs.Stages.{only_gathering, gathers}
+use Rattle.bay_calls.proofs.Stages.{gathers}
 use Rattle.bay_calls.proofs.Searching.{searched_fits, small_sums}
 use Rattle.bay_calls.proofs.bays.Bay.decide.Goals as goal
 
@@ -26,9 +26,8 @@ returns g c =
     let r = c.args.self.now.standing in
     let xs = c.args.self.now.sums.now in
     let book = c.args.self.now.book in
-    let at : r.stage ≡ Gathering = only_gathering (λ s. admitted s Decide) refl (λ v. refl) r.stage _ c.in_ok-admit.ensures in
     let b : State = seen m r book xs in
-    let gs = gathers m r book xs at in
+    let gs = gathers m c.args.self.now (λ s. admitted s Decide) refl (λ v. refl) _ c.in_ok-admit.ensures in
     let f : SFits w32 c.in_ok-leader.leader.score = search rules in
     let e = to_z-of_z f in
     let v : Verdict = record { degree = b.degree; held = b.held; message = c.in_ok-leader.leader.message; score = to_z w32 (of_z w32 c.in_ok-leader.leader.score); margin = c.in_ok-leader.leader.margin } in

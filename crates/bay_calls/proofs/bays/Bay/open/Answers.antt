@@ -3,9 +3,7 @@ use Rattle.std.specs.Option.{option_eq}
 use Rattle.kerdock.specs.Code.{size}
 use Rattle.kerdock.specs.Table.{row_of, known}
 use Rattle.decoder.specs.Search.{meanings}
-use Rattle.bay.specs.Rules.{shut}
-use Rattle.bay_rules.specs.Steps.{Opens}
-use Rattle.bay_calls.specs.Seen.{opening, state}
+use Rattle.bay_calls.specs.Seen.{opening}
 use Rattle.bay_calls.proofs.Means.{as_many, zero_means}
 use Rattle.bay_rules.proofs.Openings.{opens, opens_shut}
 use Rattle.bay_rules.proofs.Starting.{starts}
