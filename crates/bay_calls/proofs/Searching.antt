@@ -1,5 +1,5 @@
 -- What the search answers, as a decision has it.
-use Rattle.std.proofs.Common.{◌≡◌, ℕ, ◌≤◌, Bool, true, false, ◌&&◌, T, eqb, List, length, sym, refl, ◌∙◌, subst, arith, eqb-true}
+use Rattle.std.proofs.Common.{◌≡◌, ℕ, ◌≤◌, Bool, true, false, T, List, length, sym, refl, ◌∙◌, subst, arith}
 use Rattle.samples.specs.Meaning.{Meaning}
 use Rattle.samples.specs.Sizes.{Within}
 use Rattle.samples.specs.Transform.{loudest}
@@ -15,24 +15,10 @@ holds : (c : Bool) → T c → c ≡ true
 holds true t = refl
 holds false t = absurd t
 
--- not both, or both
-not_both : (a b : Bool) → (a ≡ true → b ≡ true → ⊥) → a && b ≡ false
-not_both true true h = absurd (h refl refl)
-not_both true false h = refl
-not_both false b h = refl
-
 module _ {S : Type 0} (m : Ghosts S) where
   -- a search that answers was for this degree and these sums
   pub searched_fits : (d : ℕ) (xs : List S) (w : ℕ) → Fits d (length xs) w → (known d ≡ true) × (length (meanings m xs) ≡ size (row_of d))
   searched_fits d xs w f = (holds (known d) f.0, as_many m xs ∙ f.1)
-
-  -- and one that does not was not
-  pub no_search : (d : ℕ) (xs : List S) (w : ℕ) → w ≡ length xs → (Fits d (length xs) w → ⊥) →
-      known d && eqb (length (meanings m xs)) (size (row_of d)) ≡ false
-  no_search d xs w same none =
-      not_both (known d) _ (λ k l.
-      let long : length xs ≡ size (row_of d) = sym (as_many m xs) ∙ eqb-true _ _ l in
-      none (let P : Bool → Type 0 = T in subst P (sym k) tt, long, same ∙ long))
 
   -- sums that are small by their meanings are small
   pub small_sums : (d : ℕ) (book : CodeBook) (xs : List S) → Fair d book (meanings m xs) → Within m loudest xs

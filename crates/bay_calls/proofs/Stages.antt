@@ -6,6 +6,7 @@ use Rattle.bay_calls.specs.declared.admission.Call.TheVariants.{Answer}
 use Rattle.bay_rules.specs.declared.denial.Denial.{Denial}
 use Rattle.bay_rules.specs.declared.denial.Denial.TheVariants.{Shut as IsShut, VerdictOut, Misfit}
 use Rattle.bay_rules.specs.declared.numbers.Numbers.{Numbers}
+use Rattle.bay_calls.specs.declared.bays.Bay.{Bay}
 use Rattle.bay_calls.specs.declared.standing.Standing.{Standing}
 use Rattle.bay_calls.specs.declared.standing.Stage.{Stage}
 use Rattle.bay_calls.specs.declared.standing.Stage.TheVariants.{Shut, Gathering, Waiting}
@@ -16,19 +17,22 @@ use Rattle.bay_rules.specs.Lived.{State}
 use Rattle.bay_rules.specs.Steps.{Steps, Leaves}
 use Rattle.bay_calls.specs.Sums.{emptied}
 use Rattle.bay_calls.specs.Admission.{admitted}
-use Rattle.bay_calls.specs.Seen.{five, closes, notes, stands, seen, denies}
+use Rattle.bay_calls.specs.Seen.{five, closes, notes, stands, seen, state, denies}
 use Rattle.bay_rules.proofs.Settling.{Gathers, shut_denies}
 
 -- a call that a shut bay and a waiting bay deny is let in only where the bay gathers
-pub only_gathering : (f : Stage → Result (Unit {0}) Denial) → f Shut ≡ Err IsShut → ((v : Numbers) → f (Waiting v) ≡ Err VerdictOut) →
+only_gathering : (f : Stage → Result (Unit {0}) Denial) → f Shut ≡ Err IsShut → ((v : Numbers) → f (Waiting v) ≡ Err VerdictOut) →
     (s : Stage) (x : Unit {0}) → Ok x ≡ f s → s ≡ Gathering
 only_gathering f shut out Shut x e = let z : ◌≡◌ {A = ℕ} 0 1 = cc in absurd (omega arith)
 only_gathering f shut out Gathering x e = refl
 only_gathering f shut out (Waiting v) x e = let q = out v in let z : ◌≡◌ {A = ℕ} 0 1 = cc in absurd (omega arith)
 
 -- such a bay has a state that gathers
-pub gathers : {S : Type 0} (m : Ghosts S) (r : Standing) (book : CodeBook) (xs : List S) → r.stage ≡ Gathering → Gathers (seen m r book xs)
-gathers m r book xs e = record { up = ap closes e; none = ap notes e }
+pub gathers : {S : Type 0} (m : Ghosts S) (b : Bay S) (f : Stage → Result (Unit {0}) Denial) → f Shut ≡ Err IsShut →
+    ((v : Numbers) → f (Waiting v) ≡ Err VerdictOut) → (x : Unit {0}) → Ok x ≡ f b.standing.stage → Gathers (state m b)
+gathers m b f shut out x e =
+    let at = only_gathering f shut out b.standing.stage x e in
+    record { up = ap closes at; none = ap notes at }
 
 let_in : (t : Bool) (x : Unit {0}) → Ok x ≡ cond t (Ok tt) (Err Misfit) → t ≡ true
 let_in true x e = refl

@@ -1,5 +1,5 @@
 -- One dealing of a list more: the run that the bay has lived, the answers, the work memory, and the sums at the end.
-use Rattle.std.proofs.Common.{◌≡◌, ℕ, ◌+◌, ◌<◌, ◌≤◌, true, false, ltb, ◌≢◌, List, length, get_or, set, sym, refl, ap, ◌∙◌, subst, arith, length-set, get_or-set_other, get_or-set_same, ltb-false, ltb-true}
+use Rattle.std.proofs.Common.{◌≡◌, ℕ, ◌+◌, ◌<◌, ◌≤◌, true, false, ltb, ◌≢◌, List, Ok, Err, length, get_or, set, sym, refl, ap, ◌∙◌, subst, arith, length-set, get_or-set_other, get_or-set_same, ltb-false, ltb-true}
 use Rattle.samples.specs.declared.sample.Sample.{Ghosts}
 use Rattle.kerdock.specs.Code.{size}
 use Rattle.kerdock.specs.Table.{row_of}
@@ -11,44 +11,43 @@ use Rattle.bay_calls.specs.declared.standing.Stage.{Stage}
 use Rattle.bay_calls.specs.declared.standing.Stage.TheVariants.{Shut, Gathering, Waiting}
 use Rattle.bay_calls.specs.declared.playing.Dealing.{Dealing as Listed}
 use Rattle.bay_calls.specs.declared.playing.Dealing.TheVariants.{Take}
-use Rattle.bay_calls.specs.declared.playing.Answer.{Answer as Written}
-use Rattle.bay_calls.specs.declared.playing.Answer.TheVariants.{Denied, Counted, Delivered, Message}
+use Rattle.bay_calls.specs.declared.playing.Reply.TheVariants.{Counted, Delivered, Message}
 use Rattle.bay.specs.Rules.{Opening, Run, shut, holds}
 use Rattle.bay.specs.Rules.Answer.{Denied as denying}
 use Rattle.bay_rules.specs.Lived.{Lived, Deals}
 use Rattle.bay.specs.Replay.{made}
-use Rattle.bay_calls.specs.Seen.{state, closes}
-use Rattle.bay_calls.specs.Played.{meant, told, handed, written, Beyond, IfNot, delivers, Wiped, WorkAfter, WorkLeft, SumsLeft}
+use Rattle.bay_calls.specs.Seen.{state, closes, IfDenied}
+use Rattle.bay_calls.specs.Played.{Written, meant, told, handed, written, Beyond, delivers, Wiped, WorkAfter, WorkLeft, SumsLeft}
 use Rattle.bay_calls.proofs.Means.{as_many}
 use Rattle.bay_rules.proofs.Replaying.{made_more}
 use Rattle.bay.proofs.ShutRuns.{denied_by_one}
 
 -- an answer that denies by 1 is a denial
-is_denial : (a : Written) (P : Type 0) → told a ≡ denying 1 0 → IfNot a P → P
-is_denial (Denied e) P q p = p
-is_denial (Counted n) P q p = let z : ◌≡◌ {A = ℕ} 0 1 = cc in absurd (omega arith)
-is_denial (Delivered n) P q p = let z : ◌≡◌ {A = ℕ} 0 1 = cc in absurd (omega arith)
-is_denial (Message n) P q p = let z : ◌≡◌ {A = ℕ} 0 1 = cc in absurd (omega arith)
+is_denial : (a : Written) (P : Type 0) → told a ≡ denying 1 0 → IfDenied a P → P
+is_denial (Ok (Counted n)) P q p = let z : ◌≡◌ {A = ℕ} 0 1 = cc in absurd (omega arith)
+is_denial (Ok (Delivered n)) P q p = let z : ◌≡◌ {A = ℕ} 0 1 = cc in absurd (omega arith)
+is_denial (Ok (Message n)) P q p = let z : ◌≡◌ {A = ℕ} 0 1 = cc in absurd (omega arith)
+is_denial (Err e) P q p = p
 
 -- the bay has lived one dealing more, and a shut one is still as it was opened
 pub turn : {S : Type 0} (m : Ghosts S) (pool : List S) (w w' : ℕ) (ds : List Listed) (ans : List Written) (i : ℕ) (a : Written) (o : Opening) (b₀ b b' : Bay S) →
     w' ≡ w → i < length ans →
     Lived o (made (handed m pool w ds) (written ans) i) (state m b) × (shut o ≡ true → b ≡ b₀) →
-    Deals (state m b) (meant m pool w' (get_or ds i (Take 0 0))) (told a) (state m b') → IfNot a (b' ≡ b) →
+    Deals (state m b) (meant m pool w' (get_or ds i (Take 0 0))) (told a) (state m b') → IfDenied a (b' ≡ b) →
     Lived o (made (handed m pool w ds) (written (set ans i a)) (i + 1)) (state m b') × (shut o ≡ true → b' ≡ b₀)
 turn m pool w w' ds ans i a o b₀ b b' same lt l d still =
     let d' = subst (λ (n : ℕ). Deals (state m b) (meant m pool n (get_or ds i (Take 0 0))) (told a) (state m b')) same d in
     let h : Run = made (handed m pool w ds) (written ans) i in (
       made_more o (handed m pool w ds) (written ans) (written (set ans i a)) i (told a) (state m b) (state m b') l.0 d'
-          (λ k less. let ne : k ≢ i = omega arith in ap told (sym (get_or-set_other ans i k a (Denied IsShut) ne)))
-          (ap told (sym (get_or-set_same ans i a (Denied IsShut) lt))),
+          (λ k less. let ne : k ≢ i = omega arith in ap told (sym (get_or-set_other ans i k a (Err IsShut) ne)))
+          (ap told (sym (get_or-set_same ans i a (Err IsShut) lt))),
       λ e. is_denial a (b' ≡ b) (denied_by_one o h (handed m pool w ds i) (told a) e (d' o h l.0).0) still ∙ l.1 e,
     )
 
 -- answers behind the one that is written stay as they were
 pub beyond_more : (i : ℕ) (xs ys : List Written) (a : Written) → Beyond i xs ys → Beyond (i + 1) xs (set ys i a)
 beyond_more i xs ys a h =
-    (simp length-set h.0, λ k le. let ne : k ≢ i = omega arith in rw (get_or-set_other ys i k a (Denied IsShut) ne) (h.1 k (omega arith)))
+    (simp length-set h.0, λ k le. let ne : k ≢ i = omega arith in rw (get_or-set_other ys i k a (Err IsShut) ne) (h.1 k (omega arith)))
 
 -- a stage that is closed is that of a shut bay
 shut_stage : (s : Stage) → closes s ≡ true → s ≡ Shut
@@ -69,11 +68,11 @@ sums_left {S} m o h xs ys b b₀ e l same kept starts =
 
 -- work memory, one answer more
 module _ {S : Type 0} (m : Ghosts S) (n i : ℕ) (ans : List Written) (ws us vs : List S) (lt : i < length ans) (w : WorkLeft m n i ans ws us) where
-  earlier : (a : Written) (k : ℕ) → k < i → get_or (set ans i a) k (Denied IsShut) ≡ get_or ans k (Denied IsShut)
-  earlier a k h = let ne : k ≢ i = omega arith in get_or-set_other ans i k a (Denied IsShut) ne
+  earlier : (a : Written) (k : ℕ) → k < i → get_or (set ans i a) k (Err IsShut) ≡ get_or ans k (Err IsShut)
+  earlier a k h = let ne : k ≢ i = omega arith in get_or-set_other ans i k a (Err IsShut) ne
 
-  here : (a : Written) (k : ℕ) → k < i + 1 → i ≤ k → get_or (set ans i a) k (Denied IsShut) ≡ a
-  here a k h le = let e : i ≡ k = omega arith in subst (λ (j : ℕ). get_or (set ans i a) j (Denied IsShut) ≡ a) e (get_or-set_same ans i a (Denied IsShut) lt)
+  here : (a : Written) (k : ℕ) → k < i + 1 → i ≤ k → get_or (set ans i a) k (Err IsShut) ≡ a
+  here a k h le = let e : i ≡ k = omega arith in subst (λ (j : ℕ). get_or (set ans i a) j (Err IsShut) ≡ a) e (get_or-set_same ans i a (Err IsShut) lt)
 
   -- a dealing that delivers nothing leaves it as it was
   idle : (a : Written) → delivers a ≡ false → vs ≡ us → WorkLeft m n (i + 1) (set ans i a) ws vs
@@ -99,7 +98,7 @@ module _ {S : Type 0} (m : Ghosts S) (n i : ℕ) (ans : List Written) (ws us vs 
       record {
         long = z.long ∙ w.long;
         none = λ h.
-            let isnt : delivers a ≡ false = sym (ap delivers (get_or-set_same ans i a (Denied IsShut) lt)) ∙ h i (omega arith) in
+            let isnt : delivers a ≡ false = sym (ap delivers (get_or-set_same ans i a (Err IsShut) lt)) ∙ h i (omega arith) in
             let q : ◌≡◌ {A = ℕ} 0 1 = cc in
             absurd (omega arith);
         zeros = λ j l y k below inside. z.zeros k below (omega arith);
@@ -107,7 +106,7 @@ module _ {S : Type 0} (m : Ghosts S) (n i : ℕ) (ans : List Written) (ws us vs 
       }
 
   pub work_more : (a : Written) → WorkAfter m n a us vs → WorkLeft m n (i + 1) (set ans i a) ws vs
-  work_more (Denied e) h = idle (Denied e) refl h
-  work_more (Counted k) h = idle (Counted k) refl h
-  work_more (Delivered v) h = busy (Delivered v) refl h
-  work_more (Message k) h = idle (Message k) refl h
+  work_more (Ok (Counted k)) h = idle (Ok (Counted k)) refl h
+  work_more (Ok (Delivered v)) h = busy (Ok (Delivered v)) refl h
+  work_more (Ok (Message k)) h = idle (Ok (Message k)) refl h
+  work_more (Err e) h = idle (Err e) refl h

@@ -1,7 +1,5 @@
 //! Which calls a bay lets in at which stage.
-ghost use Rattle.std.specs.Prelude.{◌≡◌, Some};
-ghost use Rattle.bay.specs.Rules.{fits};
-ghost use Rattle.bay_calls.specs.Seen.{five};
+ghost use Rattle.std.specs.Prelude.{◌≡◌};
 ghost use Rattle.bay_calls.specs.Admission.{admitted};
 
 use crate::standing::Stage;
@@ -16,32 +14,18 @@ pub(crate) enum Call {
     Answer(Numbers),
 }
 
-/// Whether all five numbers are equal.
-fn same(a: Numbers, b: Numbers) -> bool
-    ensures { result ≡ fits (five a) (Some (five b)) }
-{
-    a.degree == b.degree
-        && a.held == b.held
-        && a.message == b.message
-        && a.score == b.score
-        && a.margin == b.margin
-}
-
-/// Whether the call is let in; the denials that depend on the stage alone.
-pub(crate) fn admit(stage: Stage, call: Call) -> Result<(), Denial>
-    ensures { result ≡ admitted stage call }
-{
-    match (stage, call) {
-        (Stage::Shut, _) => Err(Denial::Shut),
-        (Stage::Gathering, Call::Take | Call::Decide | Call::Clear) => Ok(()),
-        (Stage::Gathering, Call::Answer(_)) => Err(Denial::Misfit),
-        (Stage::Waiting(_), Call::Take | Call::Decide | Call::Clear) => Err(Denial::VerdictOut),
-        (Stage::Waiting(noted), Call::Answer(given)) => {
-            if same(given, noted) {
-                Ok(())
-            } else {
-                Err(Denial::Misfit)
-            }
+impl Stage {
+    /// Whether the call is let in; the denials that depend on the stage alone.
+    pub(crate) fn admit(self, call: Call) -> Result<(), Denial>
+        ensures { result ≡ admitted self call }
+    {
+        // stays: the stage is matched together with the call that arrives, so that each pair has its line
+        match (self, call) {
+            (Stage::Shut, _) => Err(Denial::Shut),
+            (Stage::Gathering, Call::Take | Call::Decide | Call::Clear) => Ok(()),
+            (Stage::Waiting(_), Call::Take | Call::Decide | Call::Clear) => Err(Denial::VerdictOut),
+            (Stage::Waiting(noted), Call::Answer(given)) if given == noted => Ok(()),
+            (Stage::Gathering | Stage::Waiting(_), Call::Answer(_)) => Err(Denial::Misfit),
         }
     }
 }

@@ -15,6 +15,8 @@ use samples::Sample;
 
 /// A bay of any one kind of samples: the sums in memory that it is lent, beside the code book of its degree and its plain
 /// numbers.
+// stays: what the calls promise alike, as that a denied one changes nothing, is of the bay before and after, and so no
+// ghost field of one bay says it
 #[derive(Drop)]
 pub struct Bay<'a, S> {
     pub(crate) sums: &'a mut [S],
@@ -34,28 +36,20 @@ impl<'a, S: Sample> Bay<'a, S> {
         ensures lived { Lived (opening degree (length memory.old)) Opened (state S.Sample result) }
     {
         let mut book = CodeBook::blank();
-        match word_length(degree) {
-            Some(n) if n == memory.len() => {
-                let _ = make_book(degree, &mut book);
-                clean(memory);
-                Bay {
-                    sums: memory,
-                    book,
-                    standing: Standing {
-                        degree,
-                        held: 0,
-                        stage: Stage::Gathering,
-                    },
-                }
-            }
-            _ => Bay {
-                sums: memory,
-                book,
-                standing: Standing {
-                    degree,
-                    held: 0,
-                    stage: Stage::Shut,
-                },
+        let stage = if word_length(degree) == Some(memory.len()) {
+            make_book(degree, &mut book).unwrap();
+            clean(memory);
+            Stage::Gathering
+        } else {
+            Stage::Shut
+        };
+        Bay {
+            sums: memory,
+            book,
+            standing: Standing {
+                degree,
+                held: 0,
+                stage,
             },
         }
     }

@@ -1,58 +1,27 @@
 //! The decision of a bay.
-ghost use Rattle.std.specs.Prelude.{◌≡◌, length, Ok, Err};
+ghost use Rattle.std.specs.Prelude.{◌≡◌, length};
+ghost use Rattle.decoder.specs.Search.{Searched};
 ghost use Rattle.bay.specs.Rules.Dealing.{Decide};
 ghost use Rattle.bay_rules.specs.Lived.{Deals, OnlyTheScore};
 ghost use Rattle.bay_rules.specs.Steps.{Steps};
-ghost use Rattle.bay_calls.specs.Seen.{seen, state, decided, delivered, IfDenied, Worked};
+ghost use Rattle.bay_calls.specs.Seen.{state, delivered, IfDenied, Worked};
 
-use crate::admission::{Call, admit};
+use crate::admission::Call;
 use crate::bays::Bay;
-use crate::standing::{Stage, Standing};
-use crate::sums::look;
+use crate::standing::Stage;
 use crate::verdict::{Verdict, issue};
 use bay_rules::{Denial, Numbers};
-use kerdock::books::CodeBook;
+use decoder::search::{Leader, search};
 use samples::Sample;
 
-/// The rule of decide, over a bay's plain numbers, its book and its sums.
-fn decide_on<S: Sample>(
-    standing: &mut Standing,
-    book: &CodeBook,
-    sums: &mut [S],
-    work: &mut [S],
-) -> Result<Numbers, Denial>
-    ensures steps { Steps (seen S.Sample standing.old book.now sums.old) (Decide (length work.old)) (decided result) (seen S.Sample standing.new book.now sums.new) }
-    ensures kept { sums.new ≡ sums.old }
-    ensures worked { Worked S.Sample result work.old work.new }
-    ensures unmoved { IfDenied result (standing.new ≡ standing.old) }
-{
-    if let Err(e) = admit(standing.stage, Call::Decide) {
-        return Err(e);
-    }
-    if standing.held == 0 {
-        return Err(Denial::NothingHeld);
-    }
-    if work.len() != sums.len() {
-        return Err(Denial::Work);
-    }
-    match look(standing.degree, book, sums, work) {
-        Some(leader) => {
-            let numbers = Numbers {
-                degree: standing.degree,
-                held: standing.held,
-                message: leader.message,
-                score: leader.score,
-                margin: leader.margin,
-            };
-            standing.stage = Stage::Waiting(numbers);
-            Ok(numbers)
-        }
-        // no bay that was opened comes here
-        None => Err(Denial::Shut),
-    }
-}
-
 impl<'a, S: Sample> Bay<'a, S> {
+    /// The search over the sums.
+    fn look(&self, work: &mut [S]) -> Option<Leader>
+        ensures { Searched S.Sample self.now.standing.degree self.now.book self.now.sums.now work.old result work.new }
+    {
+        search(self.standing.degree, &self.book, self.sums, work)
+    }
+
     /// Decides which word was sent, and hands out the verdict. The work memory is left as zeros.
     pub fn decide(&mut self, work: &mut [S]) -> Result<Verdict, Denial>
         ensures steps { Steps (state S.Sample self.old) (Decide (length work.old)) (delivered result) (state S.Sample self.new) }
@@ -63,14 +32,24 @@ impl<'a, S: Sample> Bay<'a, S> {
         ensures unmoved { IfDenied result (self.new ≡ self.old) }
         ensures lent { self.new.sums.ghost_name ≡ self.old.sums.ghost_name }
     {
-        let Bay {
-            sums,
-            book,
-            standing,
-        } = self;
-        match decide_on(standing, book, sums, work) {
-            Ok(numbers) => Ok(issue(numbers)),
-            Err(e) => Err(e),
+        self.standing.stage.admit(Call::Decide)?;
+        if self.standing.held == 0 {
+            return Err(Denial::NothingHeld);
         }
+        if work.len() != self.sums.len() {
+            return Err(Denial::Work);
+        }
+        // no bay that was opened comes to this denial
+        let leader = self.look(work).ok_or(Denial::Shut)?;
+        // stays: no From makes the numbers, since two of them are the bay's and three are the search's
+        let numbers = Numbers {
+            degree: self.standing.degree,
+            held: self.standing.held,
+            message: leader.message,
+            score: leader.score,
+            margin: leader.margin,
+        };
+        self.standing.stage = Stage::Waiting(numbers);
+        Ok(issue(numbers))
     }
 }

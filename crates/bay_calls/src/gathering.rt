@@ -5,56 +5,13 @@ ghost use Rattle.bay.specs.Rules.Dealing.{Take, Clear};
 ghost use Rattle.bay_rules.specs.Lived.{Deals};
 ghost use Rattle.bay_rules.specs.Steps.{Steps};
 ghost use Rattle.bay_calls.specs.Sums.{Summed};
-ghost use Rattle.bay_calls.specs.Seen.{seen, state, counted, IfDone, IfDenied};
+ghost use Rattle.bay_calls.specs.Seen.{state, counted, IfDone, IfDenied};
 
-use crate::admission::{Call, admit};
+use crate::admission::Call;
 use crate::bays::Bay;
-use crate::standing::Standing;
-use crate::sums::{add_into, empty};
+use crate::sums::add_into;
 use bay_rules::Denial;
-use kerdock::books::CodeBook;
 use samples::{Sample, first_above};
-
-/// The rule of take, over a bay's plain numbers and its sums.
-fn take_in<S: Sample>(
-    standing: &mut Standing,
-    sums: &mut [S],
-    reception: &[S],
-) -> Result<u8, Denial>
-    ensures steps { (book : CodeBook) → Steps (seen S.Sample standing.old book sums.old) (Take (meanings S.Sample reception.now)) (counted result) (seen S.Sample standing.new book sums.new) }
-    ensures summed { IfDone result (Summed S.Sample sums.old reception.now sums.new) }
-    ensures unmoved { IfDenied result ((standing.new ≡ standing.old) × (sums.new ≡ sums.old)) }
-{
-    if let Err(e) = admit(standing.stage, Call::Take) {
-        return Err(e);
-    }
-    if reception.len() != sums.len() {
-        return Err(Denial::Length);
-    }
-    if let Some(i) = first_above(reception, 32767) {
-        return Err(Denial::TooLarge(i));
-    }
-    if standing.held >= 16 {
-        return Err(Denial::Full);
-    }
-    add_into(sums, reception);
-    standing.held += 1;
-    Ok(standing.held)
-}
-
-/// The rule of clear.
-fn clear_out<S: Sample>(standing: &mut Standing, sums: &mut [S]) -> Result<u8, Denial>
-    ensures steps { (book : CodeBook) → Steps (seen S.Sample standing.old book sums.old) Clear (counted result) (seen S.Sample standing.new book sums.new) }
-    ensures zeros { IfDone result (Zeros S.Sample sums.old sums.new) }
-    ensures unmoved { IfDenied result ((standing.new ≡ standing.old) × (sums.new ≡ sums.old)) }
-{
-    if let Err(e) = admit(standing.stage, Call::Clear) {
-        return Err(e);
-    }
-    let held = standing.held;
-    empty(standing, sums);
-    Ok(held)
-}
 
 impl<'a, S: Sample> Bay<'a, S> {
     /// Adds a reception to the sums, and answers how many are held.
@@ -65,12 +22,20 @@ impl<'a, S: Sample> Bay<'a, S> {
         ensures unmoved { IfDenied result (self.new ≡ self.old) }
         ensures lent { self.new.sums.ghost_name ≡ self.old.sums.ghost_name }
     {
-        let Bay {
-            sums,
-            book: _,
-            standing,
-        } = self;
-        take_in(standing, sums, reception)
+        self.standing.stage.admit(Call::Take)?;
+        if reception.len() != self.sums.len() {
+            return Err(Denial::Length);
+        }
+        // stays: what is found is the denial's place, and a map_or with a ? in its place says it in no plainer way
+        if let Some(i) = first_above(reception, 32767) {
+            return Err(Denial::TooLarge(i));
+        }
+        if self.standing.held >= 16 {
+            return Err(Denial::Full);
+        }
+        add_into(self.sums, reception);
+        self.standing.held += 1;
+        Ok(self.standing.held)
     }
 
     /// Lets go of all that is held, and answers how many that were.
@@ -81,11 +46,7 @@ impl<'a, S: Sample> Bay<'a, S> {
         ensures unmoved { IfDenied result (self.new ≡ self.old) }
         ensures lent { self.new.sums.ghost_name ≡ self.old.sums.ghost_name }
     {
-        let Bay {
-            sums,
-            book: _,
-            standing,
-        } = self;
-        clear_out(standing, sums)
+        self.standing.stage.admit(Call::Clear)?;
+        Ok(self.standing.empty(self.sums))
     }
 }

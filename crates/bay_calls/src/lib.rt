@@ -14,5 +14,5 @@ mod verdict;
 
 pub use bay_rules::{Denial, Numbers};
 pub use bays::Bay;
-pub use playing::{Answer, Dealing, play};
+pub use playing::{Answer, Dealing, Reply, play};
 pub use verdict::{Refused, Verdict};

@@ -7,7 +7,7 @@ ghost use Rattle.bay_rules.specs.Lived.{Lived, Deals};
 ghost use Rattle.bay_rules.specs.Steps.{Steps};
 ghost use Rattle.bay.specs.Replay.{made, Carries};
 ghost use Rattle.bay_calls.specs.Seen.{opening, state, delivered, IfDone, IfDenied};
-ghost use Rattle.bay_calls.specs.Played.{part as part_of, meant, told, handed, written, Beyond, IfNot, Wiped, WorkAfter, WorkLeft, SumsLeft};
+ghost use Rattle.bay_calls.specs.Played.{part as part_of, meant, told, handed, written, Beyond, Wiped, WorkAfter, WorkLeft, SumsLeft};
 
 use crate::bays::Bay;
 use crate::verdict::{Refused, Verdict, issue, spend};
@@ -16,7 +16,7 @@ use samples::Sample;
 
 /// One dealing of a list. A reception is a range of a pool of samples; the work memory of a decision is the first so many
 /// samples of the memory that is lent for it, or all where there are fewer; a verdict stands by its five numbers.
-#[derive(Clone, Copy)]
+#[derive(Clone, Copy, PartialEq, Eq, Debug)]
 pub enum Dealing {
     Take { from: usize, to: usize },
     Decide { work: usize },
@@ -26,24 +26,22 @@ pub enum Dealing {
     Clear,
 }
 
-/// What a bay answers to a dealing of a list.
-#[derive(Clone, Copy)]
-pub enum Answer {
-    Denied(Denial),
+/// What a bay answers to a dealing of a list that it does not deny.
+#[derive(Clone, Copy, PartialEq, Eq, Debug)]
+pub enum Reply {
     Counted(u8),
     Delivered(Numbers),
     Message(u32),
 }
 
+/// What a bay answers to a dealing of a list.
+pub type Answer = Result<Reply, Denial>;
+
 /// The samples of a range of the pool, none where it is no range of it.
 fn part<S: Sample>(pool: &[S], from: usize, to: usize) -> &[S]
     ensures { result.now ≡ part_of pool.now from to }
 {
-    if from <= to && to <= pool.len() {
-        &pool[from..to]
-    } else {
-        &pool[0..0]
-    }
+    pool.get(from..to).unwrap_or_default()
 }
 
 /// A decision with the first samples of the work memory.
@@ -57,10 +55,11 @@ fn decide_part<S: Sample>(bay: &mut Bay<S>, work: &mut [S], n: usize) -> Result<
     ensures untouched { IfDenied result (work.new ≡ work.old) }
     ensures lent { bay.new.sums.ghost_name ≡ bay.old.sums.ghost_name }
 {
-    bay.decide(&mut work[0..n])
+    bay.decide(&mut work[..n])
 }
 
 /// The reason of a refusal; the verdict that came back ends here, and its numbers are still in the list.
+// stays: a From would let any crate drop the verdict of a refusal by a ?, so the reason is handed to map_err
 fn reason(refused: Refused) -> Denial
     ensures { result ≡ refused.why }
 {
@@ -72,37 +71,21 @@ fn reason(refused: Refused) -> Denial
 /// One dealing: a verdict is made of its numbers for it, and ends with it.
 fn play_one<S: Sample>(bay: &mut Bay<S>, work: &mut [S], pool: &[S], dealing: Dealing) -> Answer
     ensures deals { Deals (state S.Sample bay.old) (meant S.Sample pool.now (length work.old) dealing) (told result) (state S.Sample bay.new) }
-    ensures unmoved { IfNot result (bay.new ≡ bay.old) }
+    ensures unmoved { IfDenied result (bay.new ≡ bay.old) }
     ensures works { WorkAfter S.Sample (length bay.old.sums.now) result work.old work.new }
     ensures long { length bay.new.sums.now ≡ length bay.old.sums.now }
     ensures lent { bay.new.sums.ghost_name ≡ bay.old.sums.ghost_name }
 {
-    match dealing {
-        Dealing::Take { from, to } => match bay.take(part(pool, from, to)) {
-            Ok(held) => Answer::Counted(held),
-            Err(e) => Answer::Denied(e),
-        },
-        Dealing::Decide { work: n } => match decide_part(bay, work, n.min(work.len())) {
-            Ok(verdict) => Answer::Delivered(spend(verdict)),
-            Err(e) => Answer::Denied(e),
-        },
-        Dealing::Accept(numbers) => match bay.accept(issue(numbers)) {
-            Ok(message) => Answer::Message(message),
-            Err(refused) => Answer::Denied(reason(refused)),
-        },
-        Dealing::Repeat(numbers) => match bay.repeat(issue(numbers)) {
-            Ok(held) => Answer::Counted(held),
-            Err(refused) => Answer::Denied(reason(refused)),
-        },
-        Dealing::Drop(numbers) => match bay.drop(issue(numbers)) {
-            Ok(held) => Answer::Counted(held),
-            Err(refused) => Answer::Denied(reason(refused)),
-        },
-        Dealing::Clear => match bay.clear() {
-            Ok(held) => Answer::Counted(held),
-            Err(e) => Answer::Denied(e),
-        },
-    }
+    Ok(match dealing {
+        Dealing::Take { from, to } => Reply::Counted(bay.take(part(pool, from, to))?),
+        Dealing::Decide { work: n } => {
+            Reply::Delivered(spend(decide_part(bay, work, n.min(work.len()))?))
+        }
+        Dealing::Accept(numbers) => Reply::Message(bay.accept(issue(numbers)).map_err(reason)?),
+        Dealing::Repeat(numbers) => Reply::Counted(bay.repeat(issue(numbers)).map_err(reason)?),
+        Dealing::Drop(numbers) => Reply::Counted(bay.drop(issue(numbers)).map_err(reason)?),
+        Dealing::Clear => Reply::Counted(bay.clear()?),
+    })
 }
 
 /// The dealings in their order, as far as there is room for answers.
@@ -120,8 +103,9 @@ fn play_all<S: Sample>(
     ensures lent { bay.new.sums.ghost_name ≡ bay.old.sums.ghost_name }
 {
     let n = dealings.len().min(answers.len());
-    for i in 0..n {
-        answers[i] = play_one(bay, work, pool, dealings[i]);
+    // stays: the answers go by index, since of a zip over iter_mut a proof knows no answer that it leaves
+    for (i, dealing) in dealings[..n].iter().enumerate() {
+        answers[i] = play_one(bay, work, pool, *dealing);
     }
     n
 }

@@ -2,7 +2,7 @@
 use bay_rules::Numbers;
 
 /// What a bay is at: shut for good, gathering receptions, or waiting for the answer to the verdict that is out.
-#[derive(Clone, Copy)]
+#[derive(Clone, Copy, PartialEq, Eq, Debug)]
 pub enum Stage {
     Shut,
     Gathering,
@@ -11,7 +11,7 @@ pub enum Stage {
 
 /// A bay's plain numbers: the degree that it was opened with, how many receptions it holds, and its stage, with the record
 /// of the verdict that is out.
-#[derive(Clone, Copy)]
+#[derive(Clone, Copy, PartialEq, Eq, Debug)]
 pub struct Standing {
     pub degree: u8,
     pub held: u8,

@@ -1,11 +1,10 @@
 //! The sums of a bay, sample by sample.
 ghost use Rattle.std.specs.Prelude.{◌≡◌, length};
-ghost use Rattle.decoder.specs.Search.{Zeros, Searched};
+ghost use Rattle.decoder.specs.Search.{Zeros};
 ghost use Rattle.bay_calls.specs.Sums.{Summed, emptied};
 
 use crate::standing::{Stage, Standing};
-use decoder::search::{Leader, clean, search};
-use kerdock::books::CodeBook;
+use decoder::search::clean;
 use samples::Sample;
 
 /// Adds a reception to the sums.
@@ -13,30 +12,23 @@ pub(crate) fn add_into<S: Sample>(sums: &mut [S], reception: &[S])
     requires { length reception.now ≡ length sums.old }
     ensures { Summed S.Sample sums.old reception.now sums.new }
 {
-    for (i, x) in reception.iter().enumerate() {
-        sums[i] = sums[i].add(*x);
+    // stays: the reception goes by index, since of a zip over iter_mut a proof knows no sample that it leaves
+    for (i, sum) in sums.iter_mut().enumerate() {
+        *sum = sum.add(reception[i]);
     }
 }
 
-/// Lets go of all that is held, and gathers.
-pub(crate) fn empty<S: Sample>(standing: &mut Standing, sums: &mut [S])
-    ensures standing { standing.new ≡ emptied standing.old }
-    ensures zeros { Zeros S.Sample sums.old sums.new }
-{
-    clean(sums);
-    standing.held = 0;
-    standing.stage = Stage::Gathering;
-}
-
-/// The search over the sums, which stay as they are.
-pub(crate) fn look<S: Sample>(
-    degree: u8,
-    book: &CodeBook,
-    sums: &mut [S],
-    work: &mut [S],
-) -> Option<Leader>
-    ensures kept { sums.new ≡ sums.old }
-    ensures searched { Searched S.Sample degree book.now sums.old work.old result work.new }
-{
-    search(degree, book, sums, work)
+impl Standing {
+    /// Lets go of all that is held, and gathers: how many receptions that were.
+    pub(crate) fn empty<S: Sample>(&mut self, sums: &mut [S]) -> u8
+        ensures standing { self.new ≡ emptied self.old }
+        ensures zeros { Zeros S.Sample sums.old sums.new }
+        ensures held { result ≡ self.old.held }
+    {
+        clean(sums);
+        let held = self.held;
+        self.held = 0;
+        self.stage = Stage::Gathering;
+        held
+    }
 }

@@ -1,6 +1,6 @@
 //! What bays decide over receptions.
 use crate::in_hand::{accepted, decided};
-use crate::lines::say_numbers;
+use crate::lines::say;
 use bay_calls::{Bay, Denial, Numbers};
 use samples::{Complex, Phase, Sample};
 use std::io;
@@ -32,13 +32,13 @@ const fn at(re: i32, im: i32) -> Complex {
 pub(crate) fn say_verdicts(rt: &HostRuntime) -> io::Result<()> {
     let east = at(100, 0);
     let name = "eight (100, 0)";
-    say_numbers(rt, name, over(3, &[[east; 8]]))?;
+    say(rt, name, over(3, &[[east; 8]]))?;
     let name = "eight (100, 0), then eight (0, 101)";
-    say_numbers(rt, name, over(3, &[[east; 8], [at(0, 101); 8]]))?;
+    say(rt, name, over(3, &[[east; 8], [at(0, 101); 8]]))?;
     let mut loud = [east; 8];
     loud[0] = at(0, 1000);
     let name = "(0, 1000) and seven (100, 0)";
-    say_numbers(rt, name, over(3, &[loud]))?;
+    say(rt, name, over(3, &[loud]))?;
     let zero_likely = Phase {
         at0: 0,
         at1: -1,
@@ -46,22 +46,22 @@ pub(crate) fn say_verdicts(rt: &HostRuntime) -> io::Result<()> {
         at3: -1,
     };
     let name = "eight phase (0, -1, -2, -1)";
-    say_numbers(rt, name, over(3, &[[zero_likely; 8]]))?;
-    say_numbers(rt, "32 of (10, 0)", over(5, &[[at(10, 0); 32]]))
+    say(rt, name, over(3, &[[zero_likely; 8]]))?;
+    say(rt, "32 of (10, 0)", over(5, &[[at(10, 0); 32]]))
 }
 
 /// The limits: how many receptions are held, and how large a part may be.
 pub(crate) fn say_limits(rt: &HostRuntime) -> io::Result<()> {
     let most = [at(32767, 0); 128];
     let name = "sixteen times 128 of (32767, 0)";
-    say_numbers(rt, name, over(7, &[most; 16]))?;
+    say(rt, name, over(7, &[most; 16]))?;
     let name = "seventeen times 128 of (32767, 0)";
-    say_numbers(rt, name, over(7, &[most; 17]))?;
+    say(rt, name, over(7, &[most; 17]))?;
     for part in [32767, 32768, -32767, -32768] {
         let mut reception = [at(0, 0); 8];
         reception[3] = at(part, 0);
         print!(rt; "a part of {part} at index 3")?;
-        say_numbers(rt, "", over(3, &[reception]))?;
+        say(rt, "", over(3, &[reception]))?;
     }
     Ok(())
 }
@@ -69,9 +69,9 @@ pub(crate) fn say_limits(rt: &HostRuntime) -> io::Result<()> {
 /// Eight (100, 0) have margin 600. One more reception of size s moves a margin by at most 2 * 8 * s, and a margin above
 /// that keeps its message. Eight (-s, s) lowers this one.
 pub(crate) fn say_one_more(rt: &HostRuntime, size: u8) -> io::Result<()> {
-    let bound = 2 * 8 * size as u32;
-    let part = size as i32;
+    let bound = 2 * 8 * u32::from(size);
+    let part = i32::from(size);
     print!(rt; "eight (100, 0), then eight (-{size}, {size}), at most {bound} lower")?;
     let receptions = [[at(100, 0); 8], [at(-part, part); 8]];
-    say_numbers(rt, "", over(3, &receptions))
+    say(rt, "", over(3, &receptions))
 }

@@ -1,7 +1,7 @@
 //! What bays deny.
 use crate::deciding::told;
 use crate::in_hand::{accepted, clear_denied, decide_denied, decided, take_denied};
-use crate::lines::{say_count, say_numbers};
+use crate::lines::say;
 use bay_calls::{Bay, Denial, Refused};
 use samples::{Complex, Sample};
 use std::io;
@@ -12,21 +12,21 @@ const ZERO: Complex = Complex { re: 0, im: 0 };
 pub(crate) fn say_shut(rt: &HostRuntime) -> io::Result<()> {
     let mut sums = [ZERO; 8];
     let mut bay = Bay::open(4, &mut sums);
-    say_count(rt, "degree 4, take", bay.take(&[ZERO; 8]))?;
-    say_numbers(rt, "degree 4, decide", told(&mut bay, &mut [ZERO; 8]))?;
-    say_count(rt, "degree 4, clear", bay.clear())
+    say(rt, "degree 4, take", bay.take(&[ZERO; 8]))?;
+    say(rt, "degree 4, decide", told(&mut bay, &mut [ZERO; 8]))?;
+    say(rt, "degree 4, clear", bay.clear())
 }
 
 /// Lengths that do not fit, and nothing held.
 pub(crate) fn say_lengths(rt: &HostRuntime) -> io::Result<()> {
     let mut sums = [ZERO; 8];
     let mut bay = Bay::open(3, &mut sums);
-    say_count(rt, "seven samples, take", bay.take(&[ZERO; 7]))?;
+    say(rt, "seven samples, take", bay.take(&[ZERO; 7]))?;
     let name = "nothing held, decide";
-    say_numbers(rt, name, told(&mut bay, &mut [ZERO; 8]))?;
-    say_count(rt, "eight samples, take", bay.take(&[ZERO; 8]))?;
+    say(rt, name, told(&mut bay, &mut [ZERO; 8]))?;
+    say(rt, "eight samples, take", bay.take(&[ZERO; 8]))?;
     let name = "work memory of seven, decide";
-    say_numbers(rt, name, told(&mut bay, &mut [ZERO; 7]))
+    say(rt, name, told(&mut bay, &mut [ZERO; 7]))
 }
 
 /// What take, decide and clear answer while a verdict is out, and the verdict's message once it is accepted.
@@ -61,17 +61,16 @@ pub(crate) fn say_while_out(rt: &HostRuntime) -> io::Result<()> {
     let mut bay = Bay::open(3, &mut sums);
     let _ = bay.take(&[Complex { re: 0, im: 1 }; 8]);
     match while_out(&mut bay, &[ZERO; 8], &mut [ZERO; 8]) {
-        Ok(came) => {
-            let WhileOut {
+        Ok(
+            WhileOut {
                 take,
                 decide,
                 clear,
                 message,
-            } = came;
-            println!(rt;
-                "a verdict is out: take {take}, decide {decide}, clear {clear}; then it is accepted: message {message}"
-            )
-        }
+            },
+        ) => println!(rt;
+            "a verdict is out: take {take}, decide {decide}, clear {clear}; then it is accepted: message {message}"
+        ),
         Err(denial) => println!(rt; "a verdict is out: {denial}"),
     }
 }
@@ -85,10 +84,7 @@ fn handed_on<S: Sample>(
     let verdict = decided(own, work)?;
     match other.accept(verdict) {
         Ok(message) => Ok((None, message)),
-        Err(refused) => {
-            let Refused { why, verdict } = refused;
-            Ok((Some(why), accepted(own, verdict)))
-        }
+        Err(Refused { why, verdict }) => Ok((Some(why), accepted(own, verdict))),
     }
 }
 

@@ -1,7 +1,7 @@
 //! How a bay goes on after repeat, drop and clear.
 use crate::deciding::told;
 use crate::in_hand::{decided, dropped, repeated};
-use crate::lines::{say_count, say_numbers};
+use crate::lines::say;
 use bay_calls::{Bay, Denial};
 use samples::{Complex, Sample};
 use std::io;
@@ -23,14 +23,14 @@ pub(crate) fn say_going_on(rt: &HostRuntime) -> io::Result<()> {
     let mut work = sums;
     let mut bay = Bay::open(3, &mut sums);
     let east = [Complex { re: 100, im: 0 }; 8];
-    say_count(rt, "take", bay.take(&east))?;
-    say_count(rt, "decide, repeat", kept(&mut bay, &mut work))?;
-    say_count(rt, "take", bay.take(&east))?;
-    say_numbers(rt, "decide, accept", told(&mut bay, &mut work))?;
-    say_count(rt, "take", bay.take(&east))?;
-    say_count(rt, "take", bay.take(&east))?;
-    say_count(rt, "decide, drop", let_go(&mut bay, &mut work))?;
-    say_count(rt, "clear", bay.clear())?;
-    say_count(rt, "take", bay.take(&east))?;
-    say_count(rt, "clear", bay.clear())
+    say(rt, "take", bay.take(&east))?;
+    say(rt, "decide, repeat", kept(&mut bay, &mut work))?;
+    say(rt, "take", bay.take(&east))?;
+    say(rt, "decide, accept", told(&mut bay, &mut work))?;
+    say(rt, "take", bay.take(&east))?;
+    say(rt, "take", bay.take(&east))?;
+    say(rt, "decide, drop", let_go(&mut bay, &mut work))?;
+    say(rt, "clear", bay.clear())?;
+    say(rt, "take", bay.take(&east))?;
+    say(rt, "clear", bay.clear())
 }

@@ -1,5 +1,6 @@
 //! Calls on a bay whose verdict is in hand. The verdict that is out is surely taken by its own bay, and until it is, take,
 //! decide and clear are surely denied; so no case is left over here.
+// stays: six calls and six functions, since each is proved from what its own call ensures
 ghost use Rattle.bay_calls.specs.Seen.{state};
 ghost use Rattle.bay_examples.specs.Owing.{Out, Owed};
 
@@ -17,30 +18,21 @@ pub(crate) fn decided<S: Sample>(bay: &mut Bay<S>, work: &mut [S]) -> Result<Ver
 pub(crate) fn accepted<S: Sample>(bay: &mut Bay<S>, verdict: Verdict) -> u32
     requires { Out (state S.Sample bay.old) verdict }
 {
-    match bay.accept(verdict) {
-        Ok(message) => message,
-        Err(_) => unreachable(),
-    }
+    bay.accept(verdict).unwrap()
 }
 
 /// Repeats it: how many receptions stay held.
 pub(crate) fn repeated<S: Sample>(bay: &mut Bay<S>, verdict: Verdict) -> u8
     requires { Out (state S.Sample bay.old) verdict }
 {
-    match bay.repeat(verdict) {
-        Ok(held) => held,
-        Err(_) => unreachable(),
-    }
+    bay.repeat(verdict).unwrap()
 }
 
 /// Drops it: how many receptions were let go.
 pub(crate) fn dropped<S: Sample>(bay: &mut Bay<S>, verdict: Verdict) -> u8
     requires { Out (state S.Sample bay.old) verdict }
 {
-    match bay.drop(verdict) {
-        Ok(held) => held,
-        Err(_) => unreachable(),
-    }
+    bay.drop(verdict).unwrap()
 }
 
 /// Why take is denied while the verdict is out.
@@ -48,10 +40,7 @@ pub(crate) fn take_denied<S: Sample>(bay: &mut Bay<S>, reception: &[S], verdict:
     requires { Out (state S.Sample bay.old) verdict.now }
     ensures { Out (state S.Sample bay.new) verdict.now }
 {
-    match bay.take(reception) {
-        Ok(_) => unreachable(),
-        Err(denial) => denial,
-    }
+    bay.take(reception).unwrap_err()
 }
 
 /// Why decide is denied while the verdict is out.
@@ -63,10 +52,7 @@ pub(crate) fn decide_denied<S: Sample>(
     requires { Out (state S.Sample bay.old) verdict.now }
     ensures { Out (state S.Sample bay.new) verdict.now }
 {
-    match bay.decide(work) {
-        Ok(_) => unreachable(),
-        Err(denial) => denial,
-    }
+    bay.decide(work).unwrap_err()
 }
 
 /// Why clear is denied while the verdict is out.
@@ -74,8 +60,5 @@ pub(crate) fn clear_denied<S: Sample>(bay: &mut Bay<S>, verdict: &Verdict) -> De
     requires { Out (state S.Sample bay.old) verdict.now }
     ensures { Out (state S.Sample bay.new) verdict.now }
 {
-    match bay.clear() {
-        Ok(_) => unreachable(),
-        Err(denial) => denial,
-    }
+    bay.clear().unwrap_err()
 }

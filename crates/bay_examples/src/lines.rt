@@ -1,33 +1,16 @@
 //! How answers are printed, one a line.
-use bay_calls::{Denial, Numbers};
+use bay_calls::Denial;
+use std::fmt::Display;
 use std::io;
 
-/// A line with the numbers of a verdict, or why there is none.
-pub(crate) fn say_numbers(
+/// A line with what was answered, the numbers of a verdict or a count of receptions, or why there is none.
+pub(crate) fn say<T: Display + Drop>(
     rt: &HostRuntime,
     name: &str,
-    answer: Result<Numbers, Denial>,
+    answer: Result<T, Denial>,
 ) -> io::Result<()> {
     match answer {
-        Ok(numbers) => {
-            let message = numbers.message;
-            let score = numbers.score;
-            let margin = numbers.margin;
-            let held = numbers.held;
-            println!(rt; "{name}: message {message} score {score} margin {margin} held {held}")
-        }
-        Err(denial) => println!(rt; "{name}: {denial}"),
-    }
-}
-
-/// A line with a count of receptions, or why there is none.
-pub(crate) fn say_count(
-    rt: &HostRuntime,
-    name: &str,
-    answer: Result<u8, Denial>,
-) -> io::Result<()> {
-    match answer {
-        Ok(count) => println!(rt; "{name}: {count}"),
+        Ok(told) => println!(rt; "{name}: {told}"),
         Err(denial) => println!(rt; "{name}: {denial}"),
     }
 }

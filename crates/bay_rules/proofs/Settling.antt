@@ -1,6 +1,6 @@
 -- What the tests of a call settle: the step that a state takes, once it is known which denial is due, or that none is. But for
 -- decisions it is the step of the state without its book.
-use Rattle.std.proofs.Common.{◌≡◌, ℕ, ◌+◌, ◌<◌, ◌≤◌, true, false, ◌&&◌, eqb, length, Some, None, Option, sym, refl, ap₂, subst, eq-eqb, ne_eqb}
+use Rattle.std.proofs.Common.{◌≡◌, ℕ, ◌+◌, ◌<◌, ◌≤◌, true, false, length, Some, None, Option, sym, refl, ap₂, subst, eq-eqb, ne_eqb}
 use Rattle.kerdock.specs.Code.{size}
 use Rattle.kerdock.specs.Table.{row_of, known}
 use Rattle.kerdock.specs.declared.books.CodeBook.{CodeBook}
@@ -10,7 +10,7 @@ use Rattle.bay.specs.Rules.Dealing.{Take, Decide, Accept, Repeat, Drop, Clear}
 use Rattle.bay.specs.Rules.Answer.{Delivered, Denied, Counted, Message}
 use Rattle.bay.specs.Lived.{State as Plain}
 use Rattle.bay.specs.Steps.{Adds, Zeroed, Does as PlainDoes, Ends as PlainEnds, Steps as PlainSteps, refusal as plain_refusal, refusals as plain_refusals}
-use Rattle.bay.proofs.Settling.{Gathers as PlainGathers, take_misfits as plain_misfits, take_too_large as plain_too_large, take_full as plain_full, takes as plainly_takes, accept_misfits as plain_accept_misfits, repeat_misfits as plain_repeat_misfits, drop_misfits as plain_drop_misfits, accepts as plainly_accepts, repeats as plainly_repeats, drops as plainly_drops, clears as plainly_clears}
+use Rattle.bay.proofs.Settling.{Gathers as PlainGathers, take_too_large as plain_too_large, take_full as plain_full, takes as plainly_takes, accept_misfits as plain_accept_misfits, repeat_misfits as plain_repeat_misfits, drop_misfits as plain_drop_misfits, accepts as plainly_accepts, repeats as plainly_repeats, drops as plainly_drops, clears as plainly_clears}
 use Rattle.bay_rules.specs.Lived.{State, plain}
 use Rattle.bay_rules.specs.Steps.{refusal, Leaves, Tells, Does, Ends, Steps}
 use Rattle.bay_rules.proofs.Refusals.{no_last}
@@ -78,9 +78,6 @@ step b d a b' k s e = subst (λ (x : Option Denial). Ends x b d a b') (sym (same
 
 -- ---- take
 module _ (b : State) (r : Reception) (g : Gathers b) where
-  pub take_misfits : (length r ≡ length b.sums → ⊥) → Steps b (Take r) (Denied 3 0) b
-  take_misfits other = step b (Take r) (Denied 3 0) b tt (plain_misfits (plain b) r g other) refl
-
   pub take_too_large : (i : ℕ) → length r ≡ length b.sums → too_large 0 r ≡ deny 4 i → Steps b (Take r) (Denied 4 i) b
   take_too_large i fits large = step b (Take r) (Denied 4 i) b tt (plain_too_large (plain b) r g i fits large) refl
 
@@ -94,30 +91,6 @@ module _ (b : State) (r : Reception) (g : Gathers b) where
 
 -- ---- decide
 module _ (b : State) (w : ℕ) (g : Gathers b) where
-  pub decide_holds_nothing : b.held ≡ 0 → Steps b (Decide w) (Denied 6 0) b
-  decide_holds_nothing none =
-      let e1 = g.up in
-      let e2 = g.none in
-      let e3 = eq-eqb b.held 0 none in
-      refused b (Decide w) 6 0 (rw (e1, e2, e3))
-
-  pub decide_misfits : (b.held ≡ 0 → ⊥) → (w ≡ length b.sums → ⊥) → Steps b (Decide w) (Denied 7 0) b
-  decide_misfits some other =
-      let e1 = g.up in
-      let e2 = g.none in
-      let e3 = ne_eqb b.held 0 some in
-      let e4 = ne_eqb w (length b.sums) other in
-      refused b (Decide w) 7 0 (rw (e1, e2, e3, e4))
-
-  pub decide_unfit : (b.held ≡ 0 → ⊥) → w ≡ length b.sums → known b.degree && eqb (length b.sums) (size (row_of b.degree)) ≡ false →
-      Steps b (Decide w) (Denied 1 0) b
-  decide_unfit some fits unfit =
-      let e1 = g.up in
-      let e2 = g.none in
-      let e3 = ne_eqb b.held 0 some in
-      let e4 = eq-eqb w (length b.sums) fits in
-      refused b (Decide w) 1 0 (rw (e1, e2, e3, e4, unfit))
-
   pub decides : (v : Verdict) (b' : State) → (b.held ≡ 0 → ⊥) → w ≡ length b.sums → known b.degree ≡ true →
       length b.sums ≡ size (row_of b.degree) → Leaves b b' b.held (Some v) → b'.sums ≡ b.sums → Tells b v →
       Steps b (Decide w) (Delivered v) b'

@@ -1,3 +1,4 @@
 pub mod Lived
 pub mod Steps
 pub mod Denials
+pub mod Lines

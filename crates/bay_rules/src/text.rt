@@ -1,8 +1,10 @@
-//! How a denial is written.
+//! How a denial is written, and how the numbers of a verdict are.
 ghost use Rattle.bay_rules.specs.Denials.{line};
+ghost use Rattle.bay_rules.specs.Lines.{verdict_line};
 ghost use Rattle.std.specs.Prelude.{Some};
 
 use crate::denial::Denial;
+use crate::numbers::Numbers;
 use denials::Denied;
 use std::fmt;
 
@@ -14,5 +16,23 @@ impl fmt::Display for Denial {
         let place = self.place();
         let told = Denied { number, place };
         write!(f, "{told}")
+    }
+}
+
+impl fmt::Display for Numbers {
+    ghost output = { λ n. Some (verdict_line n) };
+
+    fn fmt<W: fmt::Write>(&self, f: &mut fmt::Formatter<W>) -> fmt::Result {
+        let Numbers {
+            degree: _,
+            held,
+            message,
+            score,
+            margin,
+        } = *self;
+        write!(
+            f,
+            "message {message} score {score} margin {margin} held {held}"
+        )
     }
 }

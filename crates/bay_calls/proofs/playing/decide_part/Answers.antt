@@ -1,4 +1,4 @@
-use Rattle.std.proofs.Common.{◌≡◌, ℕ, ◌-◌, ◌≤◌, length, take, sym, ◌∙◌, subst, arith, length-take-le}
+use Rattle.std.proofs.Common.{◌≡◌, ℕ, ◌≤◌, length, take, subst, arith, length-take-le}
 use Rattle.bay.specs.Rules.Dealing.{Decide}
 use Rattle.bay_rules.specs.Steps.{Steps}
 use Rattle.bay_calls.specs.Seen.{state, delivered}
@@ -13,17 +13,15 @@ returns g c =
     let ws = c.args.work.now in
     let p = c.decide.ensures in
     let a = c.decide.result in
-    let same : n - 0 ≡ n = omega arith in
-    let fits : n - 0 ≤ length ws = omega (arith, c.requires) in
-    let long : length (take (n - 0) ws) ≡ n = length-take-le (n - 0) ws fits ∙ same in
+    let fits : n ≤ length ws = omega (arith, c.requires) in
+    let long : length (take n ws) ≡ n = length-take-le n ws fits in
     let done = subst (λ (k : ℕ). Steps (state m c.args.bay.now) (Decide k) (delivered a) (state m c.decide.new.self)) long p.steps in
-    let at = subst (λ (k : ℕ). Steps (state m c.args.bay.now) (Decide k) (delivered a) (state m c.decide.new.self)) (sym same) done in
     record {
       steps = done;
       deals = deals _ _ _ _ done;
       unmoved = p.unmoved;
       kept = p.kept;
-      wiped = wiped_part m (n - 0) ws fits a c.decide.new.work c.args.bay.now _ p.worked at;
-      untouched = untouched_part m (n - 0) ws fits a c.decide.new.work p.worked;
+      wiped = wiped_part m n ws fits a c.decide.new.work c.args.bay.now _ p.worked done;
+      untouched = untouched_part m n ws fits a c.decide.new.work p.worked;
       lent = p.lent;
     }

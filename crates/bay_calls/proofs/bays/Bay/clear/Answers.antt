@@ -1,16 +1,24 @@
-use Rattle.std.proofs.Common.{refl}
+use Rattle.std.proofs.Common.{ℕ, sym, refl, subst}
+use Rattle.bay_calls.specs.declared.admission.Call.TheVariants.{Clear}
+use Rattle.bay.specs.Rules.Answer.{Counted}
+use Rattle.bay.specs.Rules.Dealing.{Clear as Clearing}
+use Rattle.bay_rules.specs.Steps.{Steps}
+use Rattle.bay_calls.specs.Admission.{admitted}
+use Rattle.bay_calls.specs.Seen.{seen}
+use Rattle.bay_calls.proofs.Means.{zero_means}
 use Rattle.bay_rules.proofs.Living.{deals}
-use Rattle.bay_calls.proofs.Unmoved.{unmoved}
+use Rattle.bay_rules.proofs.Settling.{clears}
+use Rattle.bay_calls.proofs.Stages.{gathers, leaves_empty}
 use Rattle.bay_calls.proofs.bays.Bay.clear.Goals as goal
 
 pub returns : goal.returns
 returns g c =
-    let p = c.clear_out.ensures in
-    let done = p.steps c.args.self.now.book in
-    record {
-      steps = done;
-      deals = deals _ _ _ _ done;
-      zeros = p.zeros;
-      unmoved = unmoved c.clear_out.result c.args.self.now _ _ p.unmoved;
-      lent = refl;
-    }
+    let m = g.S.Sample in
+    let b = c.args.self.now in
+    let r = b.standing in
+    let xs = b.sums.now in
+    let gs = gathers m b (λ s. admitted s Clear) refl (λ v. refl) _ c.in_ok-admit.ensures in
+    let p = c.empty.ensures in
+    let done = subst (λ (n : ℕ). Steps (seen m r b.book xs) Clearing (Counted n) (seen m c.empty.new.self b.book c.empty.new.sums)) (sym p.held)
+    (clears (seen m r b.book xs) _ gs (leaves_empty m r _ b.book xs _ gs.up p.standing) (zero_means m xs _ p.zeros)) in
+    record { steps = done; deals = deals _ _ _ _ done; zeros = p.zeros; unmoved = tt; lent = refl }

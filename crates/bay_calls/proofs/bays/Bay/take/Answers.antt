@@ -1,16 +1,44 @@
-use Rattle.std.proofs.Common.{refl}
+use Rattle.std.proofs.Common.{sym, refl, ◌∙◌}
+use Rattle.decoder.specs.Search.{meanings}
+use Rattle.bay_calls.specs.declared.admission.Call.TheVariants.{Take}
+use Rattle.bay_calls.specs.Admission.{admitted}
+use Rattle.bay_calls.specs.Seen.{state}
+use Rattle.bay_calls.proofs.Means.{as_many, added_means, no_large, one_large}
 use Rattle.bay_rules.proofs.Living.{deals}
-use Rattle.bay_calls.proofs.Unmoved.{unmoved}
+use Rattle.bay_rules.proofs.Settling.{take_too_large, take_full, takes}
+use Rattle.bay_calls.proofs.Stages.{gathers}
 use Rattle.bay_calls.proofs.bays.Bay.take.Goals as goal
+
+pub returns-in-Some : goal.returns-in-Some
+returns-in-Some g c =
+    let m = g.S.Sample in
+    let b = c.args.self.now in
+    let handed = c.args.reception.now in
+    let gs = gathers m b (λ s. admitted s Take) refl (λ v. refl) _ c.in_ok-admit.ensures in
+    let done = take_too_large (state m b) (meanings m handed) gs c.in-Some.i
+    (as_many m handed ∙ c.if-reception-self.false ∙ sym (as_many m b.sums.now)) (one_large m handed c.in-Some.i c.in-Some.ensures) in
+    record { steps = done; deals = deals _ _ _ _ done; summed = tt; unmoved = refl; lent = refl }
+
+pub returns-then-self-ge16 : goal.returns-then-self-ge16
+returns-then-self-ge16 g c =
+    let m = g.S.Sample in
+    let b = c.args.self.now in
+    let handed = c.args.reception.now in
+    let gs = gathers m b (λ s. admitted s Take) refl (λ v. refl) _ c.in_ok-admit.ensures in
+    let done = take_full (state m b) (meanings m handed) gs
+    (as_many m handed ∙ c.if-reception-self.false ∙ sym (as_many m b.sums.now)) (no_large m handed c.in_default.ensures)
+    c.if-self-ge16.true in
+    record { steps = done; deals = deals _ _ _ _ done; summed = tt; unmoved = refl; lent = refl }
 
 pub returns : goal.returns
 returns g c =
-    let p = c.take_in.ensures in
-    let done = p.steps c.args.self.now.book in
-    record {
-      steps = done;
-      deals = deals _ _ _ _ done;
-      summed = p.summed;
-      unmoved = unmoved c.take_in.result c.args.self.now _ _ p.unmoved;
-      lent = refl;
-    }
+    let m = g.S.Sample in
+    let b = c.args.self.now in
+    let handed = c.args.reception.now in
+    let gs = gathers m b (λ s. admitted s Take) refl (λ v. refl) _ c.in_ok-admit.ensures in
+    let done = takes (state m b) (meanings m handed) gs _
+    (as_many m handed ∙ c.if-reception-self.false ∙ sym (as_many m b.sums.now)) (no_large m handed c.in_default.ensures)
+    c.if-self-ge16.false
+    (record { plainly = record { closed = refl; degree = refl; held_is = refl; noted_is = gs.none }; book = refl })
+    (added_means m b.sums.now handed _ c.if-reception-self.false c.add_into.ensures) in
+    record { steps = done; deals = deals _ _ _ _ done; summed = c.add_into.ensures; unmoved = tt; lent = refl }
