@@ -2,6 +2,7 @@ pub mod Steps
 pub mod Inside
 pub mod Laying
 pub mod TwoBytes
+pub mod Saying
 pub mod Accepting
 pub mod Places
 pub mod Returning

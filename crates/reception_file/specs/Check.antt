@@ -15,6 +15,7 @@
 use Rattle.std.specs.Prelude.{◌≡◌, ℕ, ◌<◌, ◌≤◌, ◌⊎◌, List, length, ℤ, Ok, Err, Result, ◌≢◌, unsigned_abs}
 use Rattle.samples.specs.Sizes.{Above}
 use Rattle.reception_file.specs.Layout.{at, GoodKind, GoodDegree, GoodCount, total, size, place_of, part_at, allowed}
+use Rattle.reception_file.specs.Head.{Says}
 use Rattle.reception_file.specs.declared.head.Head.{Head}
 use Rattle.reception_file.specs.declared.refusal.Refusal.{Refusal}
 use Rattle.reception_file.specs.declared.refusal.Refusal.TheVariants.{Memory, Short, Mark, Version, Kind, Degree, Count, Length, Part, Reception, Room}
@@ -65,7 +66,7 @@ Faulty bs Room = ⊥
 
 -- Of a file that is one: its kind, degree and count.
 abbrev pub Heads : List ℕ → Head → Type 0
-Heads bs h = (h.kind ≡ at bs 5) × (h.degree ≡ at bs 6) × (h.count ≡ at bs 7)
+Heads bs h = Says h (at bs 5) (at bs 6) (at bs 7)
 
 abbrev pub Checked : List ℕ → Result Head Refusal → Type 0
 Checked bs (Ok h) = Accepted bs × Heads bs h

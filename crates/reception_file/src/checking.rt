@@ -2,7 +2,8 @@
 ghost use Rattle.reception_file.specs.Check.{Measured, Checked};
 
 use crate::head::Head;
-use crate::parts::{first_loud, total_parts};
+use crate::kind::Kind;
+use crate::parts::first_loud;
 use crate::refusal::Refusal;
 
 /// The head of a file that is exactly as long as its head says. The arms stand in the order of the refusals, the last first.
@@ -10,27 +11,14 @@ fn measure(bytes: &[u8]) -> Result<Head, Refusal>
     ensures { Measured bytes.now result }
 {
     match bytes {
-        [
-            0x4B,
-            0x57,
-            0x52,
-            0,
-            1,
-            kind @ (1 | 2),
-            degree @ (3 | 5 | 7),
-            count @ 1..=16,
-            rest @ ..,
-        ] if rest.len() == 2 * total_parts(*kind, *degree, *count) => {
-            Ok(Head {
-                kind: *kind,
-                degree: *degree,
-                count: *count,
-            })
+        [0x4B, 0x57, 0x52, 0, 1, kind, degree, count, rest @ ..] => {
+            let head = Head::new(Kind::try_from(*kind)?, *degree, *count)?;
+            if rest.len() == 2 * head.parts() {
+                Ok(head)
+            } else {
+                Err(Refusal::Length(bytes.len()))
+            }
         }
-        [0x4B, 0x57, 0x52, 0, 1, 1 | 2, 3 | 5 | 7, 1..=16, ..] => Err(Refusal::Length(bytes.len())),
-        [0x4B, 0x57, 0x52, 0, 1, 1 | 2, 3 | 5 | 7, _, ..] => Err(Refusal::Count),
-        [0x4B, 0x57, 0x52, 0, 1, 1 | 2, _, _, ..] => Err(Refusal::Degree),
-        [0x4B, 0x57, 0x52, 0, 1, _, _, _, ..] => Err(Refusal::Kind),
         [0x4B, 0x57, 0x52, _, _, _, _, _, ..] => Err(Refusal::Version),
         [0x4B, 0x57, _, _, _, _, _, _, ..] => Err(Refusal::Mark(2)),
         [0x4B, _, _, _, _, _, _, _, ..] => Err(Refusal::Mark(1)),
@@ -44,8 +32,7 @@ pub fn check(bytes: &[u8]) -> Result<Head, Refusal>
     ensures { Checked bytes.now result }
 {
     let head = measure(bytes)?;
-    let total = total_parts(head.kind, head.degree, head.count);
-    match first_loud(bytes, total) {
+    match first_loud(bytes, head.parts()) {
         Some(j) => Err(Refusal::Part(8 + 2 * j)),
         None => Ok(head),
     }

@@ -2,6 +2,7 @@
 ghost use Rattle.reception_file.specs.ComplexParts.{complex_part, complex_put, complex_stored, complex_read, complex_bounded};
 ghost use Rattle.reception_file.specs.PhaseParts.{phase_part, phase_put, phase_stored, phase_read, phase_bounded};
 
+use crate::kind::Kind;
 use crate::stored::Stored;
 use samples::{Complex, Phase};
 
@@ -20,8 +21,8 @@ impl Stored for Complex {
 
     ghost bounded = { complex_bounded };
 
-    fn kind() -> u8 {
-        1u8
+    fn kind() -> Kind {
+        Kind::Complex
     }
 
     fn parts() -> usize {
@@ -59,8 +60,8 @@ impl Stored for Phase {
 
     ghost bounded = { phase_bounded };
 
-    fn kind() -> u8 {
-        2u8
+    fn kind() -> Kind {
+        Kind::Phase
     }
 
     fn parts() -> usize {

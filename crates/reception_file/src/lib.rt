@@ -2,7 +2,9 @@
 #![tactic(auto)]
 
 mod checking;
+mod degree;
 mod head;
+mod kind;
 mod kinds;
 mod parts;
 mod picking;
@@ -12,7 +14,9 @@ mod text;
 mod writing;
 
 pub use checking::check;
+pub use degree::Degree;
 pub use head::Head;
+pub use kind::Kind;
 pub use picking::pick;
 pub use refusal::Refusal;
 pub use stored::Stored;

@@ -3,36 +3,6 @@ ghost use Rattle.std.specs.Prelude.{◌≡◌, ℕ, ◌+◌, ◌*◌, ◌<◌, �
 ghost use Rattle.samples.specs.Sizes.{Above};
 ghost use Rattle.reception_file.specs.Layout.{at, signed, samples_of, parts_of, total, size, place_of, part_at, allowed, GoodKind, GoodDegree, GoodCount};
 
-/// How many samples a reception of this degree has.
-pub(crate) fn samples_in(degree: u8) -> usize
-    requires { GoodDegree degree }
-    ensures { result ≡ samples_of degree }
-{
-    match degree {
-        3 => 8,
-        5 => 32,
-        7 => 128,
-        _ => unreachable(),
-    }
-}
-
-/// How many parts a sample of this kind has.
-fn parts_in(kind: u8) -> usize
-    ensures { result ≡ parts_of kind }
-{
-    if kind == 1 { 2 } else { 4 }
-}
-
-/// How many parts a file with this head has.
-pub(crate) fn total_parts(kind: u8, degree: u8, count: u8) -> usize
-    requires degree { GoodDegree degree }
-    requires count { GoodCount count }
-    ensures is { result ≡ total kind degree count }
-    ensures bound { result ≤ 8192 }
-{
-    count as usize * samples_in(degree) * parts_in(kind)
-}
-
 /// The part of a number in a file.
 pub(crate) fn part_at(bytes: &[u8], number: usize) -> i32
     requires { place_of number + 1 < length bytes.now }

@@ -5,7 +5,7 @@ ghost use Rattle.reception_file.specs.Pick.{Holds, Picks};
 ghost use Rattle.reception_file.specs.Laws.{WrittenAgain};
 
 use crate::checking::check;
-use crate::parts::{part_at, samples_in};
+use crate::parts::part_at;
 use crate::refusal::Refusal;
 use crate::stored::Stored;
 
@@ -40,13 +40,13 @@ pub fn pick<S: Stored>(bytes: &[u8], reception: usize, memory: &mut [S]) -> Resu
     if head.kind != S::kind() {
         return Err(Refusal::Kind);
     }
-    if reception >= head.count as usize {
+    if reception >= usize::from(head.count) {
         return Err(Refusal::Reception);
     }
-    let samples = samples_in(head.degree);
+    let samples = head.samples();
     if memory.len() != samples {
         return Err(Refusal::Memory);
     }
     read_samples(bytes, reception * samples, memory);
-    Ok(head.degree)
+    Ok(u8::from(head.degree))
 }

@@ -6,7 +6,7 @@ ghost use Rattle.reception_file.specs.Write.{part_of, Weighed, Writes};
 ghost use Rattle.reception_file.specs.Laws.{ComesBack};
 ghost use Rattle.reception_file.specs.Partly.{Laid};
 
-use crate::parts::{samples_in, total_parts};
+use crate::head::Head;
 use crate::refusal::Refusal;
 use crate::stored::Stored;
 
@@ -32,32 +32,18 @@ fn first_outside<S: Stored>(samples: &[S], total: usize) -> Option<usize>
     None
 }
 
-/// How many parts there are to write.
-fn weigh<S: Stored>(degree: u8, count: u8, samples: &[S]) -> Result<usize, Refusal>
+/// The head of the file to write.
+fn weigh<S: Stored>(degree: u8, count: u8, samples: &[S]) -> Result<Head, Refusal>
     ensures { Weighed S.Sample S.Stored.own degree count samples.now result }
 {
-    match (degree, count) {
-        (3 | 5 | 7, 1..=16) => {
-            if samples.len() != count as usize * samples_in(degree) {
-                return Err(Refusal::Memory);
-            }
-            let total = total_parts(S::kind(), degree, count);
-            match first_outside(samples, total) {
-                Some(j) => Err(Refusal::Part(8 + 2 * j)),
-                None => Ok(total),
-            }
-        }
-        (3 | 5 | 7, _) => Err(Refusal::Count),
-        _ => Err(Refusal::Degree),
+    let head = Head::new(S::kind(), degree, count)?;
+    if samples.len() != usize::from(count) * head.samples() {
+        return Err(Refusal::Memory);
     }
-}
-
-/// Writes the first eight bytes.
-fn write_head(kind: u8, degree: u8, count: u8, bytes: &mut [u8])
-    requires { 8 ≤ length bytes.old }
-    ensures { bytes.new ≡ head_bytes kind degree count ++ drop 8 bytes.old }
-{
-    bytes[0..8].copy_from_slice(&[0x4B, 0x57, 0x52, 0, 1, kind, degree, count]);
+    match first_outside(samples, head.parts()) {
+        Some(j) => Err(Refusal::Part(8 + 2 * j)),
+        None => Ok(head),
+    }
 }
 
 /// Writes the two bytes of a part, the high one first.
@@ -98,12 +84,12 @@ pub fn write<S: Stored>(
     ensures writes { Writes S.Sample S.Stored.own degree count samples.now bytes.old result bytes.new }
     ensures comes_back { ComesBack S.Sample S.Stored.own degree count samples.now bytes.new result }
 {
-    let total = weigh(degree, count, samples)?;
-    let size = 8 + 2 * total;
+    let head = weigh(degree, count, samples)?;
+    let size = head.size();
     if bytes.len() < size {
         return Err(Refusal::Room);
     }
-    write_head(S::kind(), degree, count, bytes);
-    write_parts(samples, total, bytes);
+    bytes[..8].copy_from_slice(&head.bytes());
+    write_parts(samples, head.parts(), bytes);
     Ok(size)
 }
