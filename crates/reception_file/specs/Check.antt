@@ -12,10 +12,13 @@
 --   Heads       a head is that of the file
 --   Checked     what the check answers
 --   Measured    what is answered of the head and the length alone
+--   Opens       what is answered of a file taken apart
 use Rattle.std.specs.Prelude.{◌≡◌, ℕ, ◌<◌, ◌≤◌, ◌⊎◌, List, length, ℤ, Ok, Err, Result, ◌≢◌, unsigned_abs}
 use Rattle.samples.specs.Sizes.{Above}
 use Rattle.reception_file.specs.Layout.{at, GoodKind, GoodDegree, GoodCount, total, size, place_of, part_at, allowed}
 use Rattle.reception_file.specs.Head.{Says}
+use Rattle.reception_file.specs.Pairs.{PairsOf}
+use Rattle.reception_file.specs.declared.file.File.{File}
 use Rattle.reception_file.specs.declared.head.Head.{Head}
 use Rattle.reception_file.specs.declared.refusal.Refusal.{Refusal}
 use Rattle.reception_file.specs.declared.refusal.Refusal.TheVariants.{Memory, Short, Mark, Version, Kind, Degree, Count, Length, Part, Reception, Room}
@@ -72,7 +75,12 @@ abbrev pub Checked : List ℕ → Result Head Refusal → Type 0
 Checked bs (Ok h) = Accepted bs × Heads bs h
 Checked bs (Err e) = Faulty bs e
 
--- The same of the head and the length alone.
-abbrev pub Measured : List ℕ → Result Head Refusal → Type 0
-Measured bs (Ok h) = Exact bs × Heads bs h
+-- The same of the head and the length alone, with the parts of the file.
+abbrev pub Measured : List ℕ → Result File Refusal → Type 0
+Measured bs (Ok f) = Exact bs × Heads bs f.head × PairsOf bs f.parts.now
 Measured bs (Err e) = Faulty bs e
+
+-- The check, with the parts of the file.
+abbrev pub Opens : List ℕ → Result File Refusal → Type 0
+Opens bs (Ok f) = Accepted bs × Heads bs f.head × PairsOf bs f.parts.now
+Opens bs (Err e) = Faulty bs e

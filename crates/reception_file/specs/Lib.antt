@@ -2,6 +2,7 @@ pub mod Refusals
 pub mod Layout
 pub mod Numbers
 pub mod Head
+pub mod Pairs
 pub mod Check
 pub mod StoredKind
 pub mod ComplexParts

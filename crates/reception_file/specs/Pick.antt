@@ -3,6 +3,7 @@
 -- Glossary
 --   sample_at   the sample at an index
 --   Holds       the samples of a list are those of a file, from the sample of a number on
+--   Reads       the samples of a list are those of these parts
 --   Picked      the reception was due, and the memory holds it
 --   Unfit       why a file that is one has no such reception for this memory, in the order tried
 --   Picks       what picking answers, and the memory before and after
@@ -10,6 +11,7 @@ use Rattle.std.specs.Prelude.{◌≡◌, ℕ, ◌+◌, ◌*◌, ◌<◌, ◌≤�
 use Rattle.samples.specs.Sizes.{Within}
 use Rattle.samples.specs.declared.sample.Sample.{Ghosts}
 use Rattle.reception_file.specs.Layout.{at, samples_of, part_at, allowed}
+use Rattle.reception_file.specs.Pairs.{part_in}
 use Rattle.reception_file.specs.Check.{Accepted, Faulty}
 use Rattle.reception_file.specs.declared.refusal.Refusal.{Refusal}
 use Rattle.reception_file.specs.declared.refusal.Refusal.TheVariants.{Memory, Short, Mark, Version, Kind, Degree, Count, Length, Part, Reception, Room}
@@ -22,6 +24,10 @@ module _ {S : Type 0} (m : Ghosts S) (t : StoredGhosts S) where
   -- The samples of a file are numbered through from 0, and so are its parts: sample n begins at part n × width.
   abbrev pub Holds : List ℕ → ℕ → List S → Type 0
   Holds bs first xs = (i k : ℕ) → i < length xs → k < t.width → t.part (sample_at xs i) k ≡ part_at bs ((first + i) * t.width + k)
+
+  -- The samples of a list of parts.
+  abbrev pub Reads : List (List ℕ) → List S → Type 0
+  Reads ps xs = (i k : ℕ) → i < length xs → k < t.width → t.part (sample_at xs i) k ≡ part_in ps (i * t.width + k)
 
   pub record Picked (bs : List ℕ) (r degree : ℕ) (after : List S) : Type 0 where
     -- nothing was to be refused

@@ -3,6 +3,7 @@
 
 mod checking;
 mod degree;
+mod file;
 mod head;
 mod kind;
 mod kinds;
