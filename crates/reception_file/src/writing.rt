@@ -1,5 +1,5 @@
 //! Receptions as the bytes of a file.
-ghost use Rattle.std.specs.Prelude.{◌≡◌, ℕ, ◌+◌, ◌*◌, ◌/◌, ◌%◌, ◌<◌, ◌≤◌, ◌++◌, length, drop, MatchOption, slice_set, unsigned_abs};
+ghost use Rattle.std.specs.Prelude.{◌≡◌, ℕ, ◌+◌, ◌*◌, ◌/◌, ◌%◌, ◌^◌, ◌<◌, ◌≤◌, ◌++◌, length, drop, MatchOption, slice_set, unsigned_abs};
 ghost use Rattle.samples.specs.Sizes.{Above};
 ghost use Rattle.reception_file.specs.Layout.{place_of, raw, allowed, head_bytes};
 ghost use Rattle.reception_file.specs.Write.{part_of, Weighed, Writes};
@@ -10,23 +10,17 @@ use crate::head::Head;
 use crate::refusal::Refusal;
 use crate::stored::Stored;
 
-/// The part of a number, over all parts of the samples.
-fn part_of<S: Stored>(samples: &[S], number: usize) -> i32
-    requires { number < length samples.now * S.Stored.width }
-    ensures { result ≡ part_of S.Sample S.Stored.own samples.now number }
+/// The number of the first part of the samples that is not allowed.
+fn first_outside<S: Stored>(samples: &[S]) -> Option<usize>
+    requires { length samples.now * S.Stored.width < 2 ^ 32 }
+    ensures { MatchOption result ((j : ℕ) → j < length samples.now * S.Stored.width → unsigned_abs (part_of S.Sample S.Stored.own samples.now j) ≤ allowed) (λ j. Above (λ k. unsigned_abs (part_of S.Sample S.Stored.own samples.now k)) (length samples.now * S.Stored.width) allowed j) }
 {
     let parts = S::parts();
-    samples[number / parts].part_of(number % parts)
-}
-
-/// The number of the first part of the samples that is not allowed.
-fn first_outside<S: Stored>(samples: &[S], total: usize) -> Option<usize>
-    requires { total ≡ length samples.now * S.Stored.width }
-    ensures { MatchOption result ((j : ℕ) → j < total → unsigned_abs (part_of S.Sample S.Stored.own samples.now j) ≤ allowed) (λ j. Above (λ k. unsigned_abs (part_of S.Sample S.Stored.own samples.now k)) total allowed j) }
-{
-    for j in 0..total {
-        if part_of(samples, j).unsigned_abs() > 32767 {
-            return Some(j);
+    for (i, sample) in samples.iter().enumerate() {
+        for k in 0..parts {
+            if sample.part_of(k).unsigned_abs() > 32767 {
+                return Some(i * parts + k);
+            }
         }
     }
     None
@@ -40,7 +34,7 @@ fn weigh<S: Stored>(degree: u8, count: u8, samples: &[S]) -> Result<Head, Refusa
     if samples.len() != usize::from(count) * head.samples() {
         return Err(Refusal::Memory);
     }
-    match first_outside(samples, head.parts()) {
+    match first_outside(samples) {
         Some(j) => Err(Refusal::Part(8 + 2 * j)),
         None => Ok(head),
     }
@@ -53,24 +47,20 @@ fn write_part(number: usize, part: i32, bytes: &mut [u8])
     ensures { bytes.new ≡ slice_set (slice_set bytes.old (place_of number) (raw part / 256)) (place_of number + 1) (raw part % 256) }
 {
     let place = 8 + 2 * number;
-    let raw = if part < 0 {
-        (part + 65536) as u32
-    } else {
-        part as u32
-    };
-    bytes[place] = (raw / 256) as u8;
-    bytes[place + 1] = (raw % 256) as u8;
+    bytes[place..place + 2].copy_from_slice(&(part as i16).to_be_bytes());
 }
 
 /// Writes all parts behind the head.
-fn write_parts<S: Stored>(samples: &[S], total: usize, bytes: &mut [u8])
-    requires many { total ≡ length samples.now * S.Stored.width }
-    requires within { (j : ℕ) → j < total → unsigned_abs (part_of S.Sample S.Stored.own samples.now j) ≤ allowed }
-    requires room { place_of total ≤ length bytes.old }
-    ensures { Laid (part_of S.Sample S.Stored.own samples.now) total bytes.old bytes.new }
+fn write_parts<S: Stored>(samples: &[S], bytes: &mut [u8])
+    requires within { (j : ℕ) → j < length samples.now * S.Stored.width → unsigned_abs (part_of S.Sample S.Stored.own samples.now j) ≤ allowed }
+    requires room { place_of (length samples.now * S.Stored.width) ≤ length bytes.old }
+    ensures { Laid (part_of S.Sample S.Stored.own samples.now) (length samples.now * S.Stored.width) bytes.old bytes.new }
 {
-    for j in 0..total {
-        write_part(j, part_of(samples, j), bytes);
+    let parts = S::parts();
+    for (i, sample) in samples.iter().enumerate() {
+        for k in 0..parts {
+            write_part(i * parts + k, sample.part_of(k), bytes);
+        }
     }
 }
 
@@ -90,6 +80,6 @@ pub fn write<S: Stored>(
         return Err(Refusal::Room);
     }
     bytes[..8].copy_from_slice(&head.bytes());
-    write_parts(samples, head.parts(), bytes);
+    write_parts(samples, bytes);
     Ok(size)
 }
