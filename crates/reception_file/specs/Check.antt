@@ -8,17 +8,15 @@
 --   Exact       the file opens with a head, and is as long as that says
 --   Accepted    the file is one: it is exact, and each of its parts is allowed
 --   Loud        of so many parts, the one at a byte place is the first that is not allowed
+--   Quiet       each of so many parts is allowed, or the refusal of the first that is not
 --   Faulty      when the check refuses, case by case, each where those tried before it do not hold
 --   Heads       a head is that of the file
 --   Checked     what the check answers
 --   Measured    what is answered of the head and the length alone
---   Opens       what is answered of a file taken apart
 use Rattle.std.specs.Prelude.{◌≡◌, ℕ, ◌<◌, ◌≤◌, ◌⊎◌, List, length, ℤ, Ok, Err, Result, ◌≢◌, unsigned_abs}
 use Rattle.samples.specs.Sizes.{Above}
 use Rattle.reception_file.specs.Layout.{at, GoodKind, GoodDegree, GoodCount, total, size, place_of, part_at, allowed}
 use Rattle.reception_file.specs.Head.{Says}
-use Rattle.reception_file.specs.Pairs.{PairsOf}
-use Rattle.reception_file.specs.declared.file.File.{File}
 use Rattle.reception_file.specs.declared.head.Head.{Head}
 use Rattle.reception_file.specs.declared.refusal.Refusal.{Refusal}
 use Rattle.reception_file.specs.declared.refusal.Refusal.TheVariants.{Memory, Short, Mark, Version, Kind, Degree, Count, Length, Part, Reception, Room}
@@ -53,6 +51,11 @@ Accepted bs = Exact bs × ((j : ℕ) → j < total_at bs → unsigned_abs (part_
 abbrev pub Loud : (ℕ → ℤ) → ℕ → ℕ → Type 0
 Loud part count p = (j : ℕ) × (p ≡ place_of j) × Above (λ k. unsigned_abs (part k)) count allowed j
 
+-- What is answered to the search for a part that is not allowed, of so many parts.
+abbrev pub Quiet : (ℕ → ℤ) → ℕ → Result (Unit {0}) Refusal → Type 0
+Quiet part count (Ok u) = (j : ℕ) → j < count → unsigned_abs (part j) ≤ allowed
+Quiet part count (Err e) = (p : ℕ) × (e ≡ Part p) × Loud part count p
+
 -- A file is refused by the first of these that it fails.
 abbrev pub Faulty : List ℕ → Refusal → Type 0
 Faulty bs (Short n) = (length bs < 8) × (n ≡ length bs)
@@ -75,12 +78,7 @@ abbrev pub Checked : List ℕ → Result Head Refusal → Type 0
 Checked bs (Ok h) = Accepted bs × Heads bs h
 Checked bs (Err e) = Faulty bs e
 
--- The same of the head and the length alone, with the parts of the file.
-abbrev pub Measured : List ℕ → Result File Refusal → Type 0
-Measured bs (Ok f) = Exact bs × Heads bs f.head × PairsOf bs f.parts.now
+-- The same of the head and the length alone.
+abbrev pub Measured : List ℕ → Result Head Refusal → Type 0
+Measured bs (Ok h) = Exact bs × Heads bs h
 Measured bs (Err e) = Faulty bs e
-
--- The check, with the parts of the file.
-abbrev pub Opens : List ℕ → Result File Refusal → Type 0
-Opens bs (Ok f) = Accepted bs × Heads bs f.head × PairsOf bs f.parts.now
-Opens bs (Err e) = Faulty bs e

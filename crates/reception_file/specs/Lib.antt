@@ -4,6 +4,8 @@ pub mod Numbers
 pub mod Head
 pub mod Pairs
 pub mod Check
+pub mod Props
+pub mod Opening
 pub mod StoredKind
 pub mod ComplexParts
 pub mod PhaseParts

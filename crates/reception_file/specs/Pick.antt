@@ -6,6 +6,7 @@
 --   Reads       the samples of a list are those of these parts
 --   Picked      the reception was due, and the memory holds it
 --   Unfit       why a file that is one has no such reception for this memory, in the order tried
+--   PicksFrom   what picking out of a file that is one answers, and the memory before and after
 --   Picks       what picking answers, and the memory before and after
 use Rattle.std.specs.Prelude.{◌≡◌, ℕ, ◌+◌, ◌*◌, ◌<◌, ◌≤◌, ◌⊎◌, List, length, Ok, Err, Result, ◌≢◌, slice_index_or}
 use Rattle.samples.specs.Sizes.{Within}
@@ -54,6 +55,11 @@ module _ {S : Type 0} (m : Ghosts S) (t : StoredGhosts S) where
   Unfit bs r n (Length k) = ⊥
   Unfit bs r n (Part p) = ⊥
   Unfit bs r n Room = ⊥
+
+  -- Of a file that is one. A refusal leaves the memory as it was.
+  abbrev pub PicksFrom : List ℕ → ℕ → List S → Result (Unit {0}) Refusal → List S → Type 0
+  PicksFrom bs r before (Ok u) after = Picked bs r (at bs 6) after × (length after ≡ length before)
+  PicksFrom bs r before (Err e) after = Unfit bs r (length before) e × (after ≡ before)
 
   -- What the check refuses is refused as the check does. A refusal leaves the memory as it was.
   abbrev pub Picks : List ℕ → ℕ → List S → Result ℕ Refusal → List S → Type 0

@@ -1,9 +1,9 @@
 //! Reception files: bytes checked, a reception picked out of them, and receptions written as bytes.
 #![tactic(auto)]
 
+mod checked_file;
 mod checking;
 mod degree;
-mod file;
 mod head;
 mod kind;
 mod kinds;
@@ -14,6 +14,7 @@ mod stored;
 mod text;
 mod writing;
 
+pub use checked_file::CheckedFile;
 pub use checking::check;
 pub use degree::Degree;
 pub use head::Head;

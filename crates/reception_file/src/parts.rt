@@ -1,8 +1,9 @@
 //! Parts, each of two bytes.
-ghost use Rattle.std.specs.Prelude.{◌≡◌, ℕ, ◌<◌, ◌≤◌, length, MatchOption, unsigned_abs};
-ghost use Rattle.samples.specs.Sizes.{Above};
-ghost use Rattle.reception_file.specs.Layout.{allowed};
-ghost use Rattle.reception_file.specs.Pairs.{pair_part, part_in};
+ghost use Rattle.std.specs.Prelude.{◌≡◌, ◌-◌, ◌/◌, ◌^◌, ◌<◌, ◌≤◌, length};
+ghost use Rattle.reception_file.specs.Check.{Quiet};
+ghost use Rattle.reception_file.specs.Pairs.{pair_part, part_in, PairsOf};
+
+use crate::refusal::Refusal;
 
 /// The part that two bytes stand for, the high one first.
 pub(crate) fn part_from(bytes: [u8; 2]) -> i32
@@ -11,9 +12,20 @@ pub(crate) fn part_from(bytes: [u8; 2]) -> i32
     i32::from(i16::from_be_bytes(bytes))
 }
 
-/// The number of the first part that is not allowed. No part is above 32,767.
-pub(crate) fn first_loud(parts: &[[u8; 2]]) -> Option<usize>
-    ensures { MatchOption result ((j : ℕ) → j < length parts.now → unsigned_abs (part_in parts.now j) ≤ allowed) (λ j. Above (λ k. unsigned_abs (part_in parts.now k)) (length parts.now) allowed j) }
+/// The parts of a file, behind the first eight bytes.
+pub(crate) fn parts_of(bytes: &[u8]) -> &[[u8; 2]]
+    requires { 8 ≤ length bytes.now }
+    ensures parts { PairsOf bytes.now result.now }
+    ensures many { length result.now ≡ (length bytes.now - 8) / 2 }
 {
-    parts.iter().position(|part| part_from(*part) < -32767)
+    bytes[8..].as_chunks().0
+}
+
+/// Refuses the first part that is not allowed. No part is above 32,767.
+pub(crate) fn check_parts(parts: &[[u8; 2]]) -> Result<(), Refusal>
+    requires { length parts.now < 2 ^ 32 }
+    ensures { Quiet (part_in parts.now) (length parts.now) result }
+{
+    let loud = parts.iter().position(|part| part_from(*part) < -32767);
+    loud.map_or(Ok(()), |j| Err(Refusal::Part(8 + 2 * j)))
 }

@@ -1,11 +1,11 @@
 //! One reception out of a file.
 ghost use Rattle.std.specs.Prelude.{◌≡◌, ℕ, ◌+◌, ◌*◌, ◌<◌, ◌≤◌, length};
 ghost use Rattle.reception_file.specs.Pairs.{part_in};
-ghost use Rattle.reception_file.specs.Pick.{Reads, Picks};
+ghost use Rattle.reception_file.specs.Pick.{Reads, PicksFrom, Picks};
 ghost use Rattle.reception_file.specs.Laws.{WrittenAgain};
 
-use crate::file::File;
-use crate::parts::part_from;
+use crate::checked_file::CheckedFile;
+use crate::parts::{part_from, parts_of};
 use crate::refusal::Refusal;
 use crate::stored::Stored;
 
@@ -32,25 +32,35 @@ fn read_samples<S: Stored>(parts: &[[u8; 2]], memory: &mut [S])
     }
 }
 
+impl CheckedFile<'_> {
+    /// Leaves one reception of the file in the memory. Receptions are numbered from 0.
+    pub fn pick<S: Stored>(self, reception: usize, memory: &mut [S]) -> Result<(), Refusal>
+        ensures { PicksFrom S.Sample S.Stored.own self.entry.bytes.now reception memory.old result memory.new }
+    {
+        let head = self.head;
+        if head.kind != S::kind() {
+            return Err(Refusal::Kind);
+        }
+        if reception >= usize::from(head.count) {
+            return Err(Refusal::Reception);
+        }
+        let samples = head.samples();
+        if memory.len() != samples {
+            return Err(Refusal::Memory);
+        }
+        let long = samples * S::parts();
+        let first = reception * long;
+        read_samples(&parts_of(self.bytes)[first..first + long], memory);
+        Ok(())
+    }
+}
+
 /// Leaves one reception of a file in the memory, and answers the degree. Receptions are numbered from 0.
 pub fn pick<S: Stored>(bytes: &[u8], reception: usize, memory: &mut [S]) -> Result<u8, Refusal>
     ensures picks { Picks S.Sample S.Stored.own bytes.now reception memory.old result memory.new }
     ensures written_again { WrittenAgain S.Sample S.Stored.own bytes.now result }
 {
-    let file = File::open(bytes)?;
-    let head = file.head;
-    if head.kind != S::kind() {
-        return Err(Refusal::Kind);
-    }
-    if reception >= usize::from(head.count) {
-        return Err(Refusal::Reception);
-    }
-    let samples = head.samples();
-    if memory.len() != samples {
-        return Err(Refusal::Memory);
-    }
-    let long = samples * S::parts();
-    let first = reception * long;
-    read_samples(&file.parts[first..first + long], memory);
-    Ok(u8::from(head.degree))
+    let file = CheckedFile::open(bytes)?;
+    file.pick(reception, memory)?;
+    Ok(u8::from(file.head.degree))
 }
