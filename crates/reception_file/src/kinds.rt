@@ -25,10 +25,6 @@ impl Stored for Complex {
         Kind::Complex
     }
 
-    fn parts() -> usize {
-        2usize
-    }
-
     fn part_of(self, number: usize) -> i32 {
         match number {
             0 => self.re,
@@ -36,12 +32,12 @@ impl Stored for Complex {
         }
     }
 
-    fn with_part(self, number: usize, value: i32) -> Complex {
-        let Complex { re, im } = self;
+    fn with_part(mut self, number: usize, value: i32) -> Complex {
         match number {
-            0 => Complex { re: value, im },
-            _ => Complex { re, im: value },
+            0 => self.re = value,
+            _ => self.im = value,
         }
+        self
     }
 }
 
@@ -64,10 +60,6 @@ impl Stored for Phase {
         Kind::Phase
     }
 
-    fn parts() -> usize {
-        4usize
-    }
-
     fn part_of(self, number: usize) -> i32 {
         match number {
             0 => self.at0,
@@ -77,33 +69,13 @@ impl Stored for Phase {
         }
     }
 
-    fn with_part(self, number: usize, value: i32) -> Phase {
-        let Phase { at0, at1, at2, at3 } = self;
+    fn with_part(mut self, number: usize, value: i32) -> Phase {
         match number {
-            0 => Phase {
-                at0: value,
-                at1,
-                at2,
-                at3,
-            },
-            1 => Phase {
-                at0,
-                at1: value,
-                at2,
-                at3,
-            },
-            2 => Phase {
-                at0,
-                at1,
-                at2: value,
-                at3,
-            },
-            _ => Phase {
-                at0,
-                at1,
-                at2,
-                at3: value,
-            },
+            0 => self.at0 = value,
+            1 => self.at1 = value,
+            2 => self.at2 = value,
+            _ => self.at3 = value,
         }
+        self
     }
 }

@@ -25,7 +25,10 @@ pub trait Stored: Sample {
 
     /// How many parts a sample has.
     fn parts() -> usize
-        ensures { result ≡ width };
+        ensures { result ≡ width }
+    {
+        Self::kind().parts()
+    }
 
     /// The part of a number, from 0; of a number that is too large, the last part.
     fn part_of(self, number: usize) -> i32

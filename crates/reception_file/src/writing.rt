@@ -1,7 +1,7 @@
 //! Receptions as the bytes of a file.
 ghost use Rattle.std.specs.Prelude.{◌≡◌, ℕ, ◌+◌, ◌*◌, ◌/◌, ◌%◌, ◌^◌, ◌<◌, ◌≤◌, ◌++◌, length, drop, MatchOption, slice_set, unsigned_abs};
-ghost use Rattle.samples.specs.Sizes.{Above};
 ghost use Rattle.reception_file.specs.Layout.{place_of, raw, allowed, head_bytes};
+ghost use Rattle.reception_file.specs.Check.{Quiet};
 ghost use Rattle.reception_file.specs.Write.{part_of, Weighed, Writes};
 ghost use Rattle.reception_file.specs.Laws.{ComesBack};
 ghost use Rattle.reception_file.specs.Partly.{Laid};
@@ -10,20 +10,20 @@ use crate::head::Head;
 use crate::refusal::Refusal;
 use crate::stored::Stored;
 
-/// The number of the first part of the samples that is not allowed.
-fn first_outside<S: Stored>(samples: &[S]) -> Option<usize>
+/// Refuses the first part of the samples that is not allowed.
+fn check_samples<S: Stored>(samples: &[S]) -> Result<(), Refusal>
     requires { length samples.now * S.Stored.width < 2 ^ 32 }
-    ensures { MatchOption result ((j : ℕ) → j < length samples.now * S.Stored.width → unsigned_abs (part_of S.Sample S.Stored.own samples.now j) ≤ allowed) (λ j. Above (λ k. unsigned_abs (part_of S.Sample S.Stored.own samples.now k)) (length samples.now * S.Stored.width) allowed j) }
+    ensures { Quiet (part_of S.Sample S.Stored.own samples.now) (length samples.now * S.Stored.width) result }
 {
     let parts = S::parts();
     for (i, sample) in samples.iter().enumerate() {
         for k in 0..parts {
             if sample.part_of(k).unsigned_abs() > 32767 {
-                return Some(i * parts + k);
+                return Err(Refusal::Part(8 + 2 * (i * parts + k)));
             }
         }
     }
-    None
+    Ok(())
 }
 
 /// The head of the file to write.
@@ -34,10 +34,8 @@ fn weigh<S: Stored>(degree: u8, count: u8, samples: &[S]) -> Result<Head, Refusa
     if samples.len() != usize::from(count) * head.samples() {
         return Err(Refusal::Memory);
     }
-    match first_outside(samples) {
-        Some(j) => Err(Refusal::Part(8 + 2 * j)),
-        None => Ok(head),
-    }
+    check_samples(samples)?;
+    Ok(head)
 }
 
 /// Writes the two bytes of a part, the high one first.
