@@ -1,5 +1,5 @@
 //! The degrees that a file can have.
-ghost use Rattle.std.specs.Prelude.{◌≡◌};
+ghost use Rattle.std.specs.Prelude.{◌≡◌, ◌≤◌};
 ghost use Rattle.reception_file.specs.Layout.{samples_of};
 ghost use Rattle.reception_file.specs.Numbers.{degree_number, ReadsDegree};
 
@@ -16,7 +16,8 @@ pub enum Degree {
 impl Degree {
     /// How many samples a reception of this degree has: 2 to the degree.
     pub fn samples(self) -> usize
-        ensures { result ≡ samples_of (degree_number self) }
+        ensures is { result ≡ samples_of (degree_number self) }
+        ensures most { result ≤ 128 }
     {
         match self {
             Degree::Three => 8,

@@ -37,7 +37,8 @@ impl Head {
 
     /// How many samples each reception has.
     pub fn samples(self) -> usize
-        ensures { result ≡ samples_of (degree_number self.degree) }
+        ensures is { result ≡ samples_of (degree_number self.degree) }
+        ensures most { result ≤ 128 }
     {
         self.degree.samples()
     }
@@ -58,7 +59,7 @@ impl Head {
     }
 
     /// The first eight bytes of the file.
-    pub(crate) fn bytes(self) -> [u8; 8]
+    pub(crate) fn to_bytes(self) -> [u8; 8]
         ensures { result ≡ head_bytes (kind_number self.kind) (degree_number self.degree) self.count }
     {
         [

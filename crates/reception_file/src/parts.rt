@@ -5,6 +5,9 @@ ghost use Rattle.reception_file.specs.Pairs.{pair_part, part_in, PairsOf};
 
 use crate::refusal::Refusal;
 
+/// The largest absolute value of a part.
+pub(crate) const LARGEST: u32 = 32767;
+
 /// The part that two bytes stand for, the high one first.
 pub(crate) fn part_from(bytes: [u8; 2]) -> i32
     ensures { result ≡ pair_part bytes }
@@ -21,11 +24,13 @@ pub(crate) fn parts_of(bytes: &[u8]) -> &[[u8; 2]]
     bytes[8..].as_chunks().0
 }
 
-/// Refuses the first part that is not allowed. No part is above 32,767.
+/// Refuses the first part that is not allowed.
 pub(crate) fn check_parts(parts: &[[u8; 2]]) -> Result<(), Refusal>
     requires { length parts.now < 2 ^ 32 }
     ensures { Quiet (part_in parts.now) (length parts.now) result }
 {
-    let loud = parts.iter().position(|part| part_from(*part) < -32767);
+    let loud = parts
+        .iter()
+        .position(|part| part_from(*part).unsigned_abs() > LARGEST);
     loud.map_or(Ok(()), |j| Err(Refusal::Part(8 + 2 * j)))
 }

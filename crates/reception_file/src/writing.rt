@@ -7,6 +7,7 @@ ghost use Rattle.reception_file.specs.Laws.{ComesBack};
 ghost use Rattle.reception_file.specs.Partly.{Laid};
 
 use crate::head::Head;
+use crate::parts::LARGEST;
 use crate::refusal::Refusal;
 use crate::stored::Stored;
 
@@ -18,7 +19,7 @@ fn check_samples<S: Stored>(samples: &[S]) -> Result<(), Refusal>
     let parts = S::parts();
     for (i, sample) in samples.iter().enumerate() {
         for k in 0..parts {
-            if sample.part_of(k).unsigned_abs() > 32767 {
+            if sample.part_of(k).unsigned_abs() > LARGEST {
                 return Err(Refusal::Part(8 + 2 * (i * parts + k)));
             }
         }
@@ -77,7 +78,7 @@ pub fn write<S: Stored>(
     if bytes.len() < size {
         return Err(Refusal::Room);
     }
-    bytes[..8].copy_from_slice(&head.bytes());
+    bytes[..8].copy_from_slice(&head.to_bytes());
     write_parts(samples, bytes);
     Ok(size)
 }

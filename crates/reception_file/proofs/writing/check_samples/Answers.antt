@@ -20,12 +20,19 @@ loop-k-preserved g c j h =
     (quiet c.part_of.result _ c.unsigned_abs.result (search rules) c.unsigned_abs.ensures.value (c.part_of.ensures ∙ sym here) (omega arith))
     j (omega arith)
 
-pub returns-then-unsigned_abs-gt32767 : goal.returns-then-unsigned_abs-gt32767
-returns-then-unsigned_abs-gt32767 g c =
+pub returns-then-unsigned_abs-gt-LARGEST : goal.returns-then-unsigned_abs-gt-LARGEST
+returns-then-unsigned_abs-gt-LARGEST g c =
     let here = part_of_item g.S.Sample g.S.Stored c.args.samples.now c.loop-i.i c.loop-k.k c.index-samples-i.result (omega arith) c.index-samples-i.is (omega (arith, c.parts-parts.ensures)) in
-    let place : c.loop-i.i * g.S.Stored.width + c.loop-k.k ≡ c.loop-i.i * c.parts-parts.result + c.loop-k.k = ap (λ (w : ℕ). c.loop-i.i * w + c.loop-k.k) (sym c.parts-parts.ensures) in
-    (_, refl, (c.loop-i.i * g.S.Stored.width + c.loop-k.k, ap place_of (sym place), record {
-      inside = digits_lt (omega arith) (omega (arith, c.parts-parts.ensures));
-      above = loud c.part_of.result _ c.unsigned_abs.result (search rules) c.unsigned_abs.ensures.value (c.part_of.ensures ∙ sym here) (omega arith);
-      first = c.loop-k.invariant;
-    }))
+    let place : c.loop-i.i * g.S.Stored.width + c.loop-k.k ≡ c.loop-i.i * c.parts-parts.result + c.loop-k.k = ap (λ (w : ℕ). c.loop-i.i * w + c.loop-k.k) (sym c.parts-parts.ensures) in (
+      _,
+      refl,
+      (
+        c.loop-i.i * g.S.Stored.width + c.loop-k.k,
+        ap place_of (sym place),
+        record {
+          inside = digits_lt (omega arith) (omega (arith, c.parts-parts.ensures));
+          above = loud c.part_of.result _ c.unsigned_abs.result (search rules) c.unsigned_abs.ensures.value (c.part_of.ensures ∙ sym here) (omega arith);
+          first = c.loop-k.invariant;
+        },
+      ),
+    )
