@@ -82,7 +82,8 @@ pub fn search<S: Sample>(degree: u8, book: &CodeBook, sums: &[S], work: &mut [S]
     if sums.len() != n || work.len() != n {
         return None;
     }
-    let tables = Tables::new(book, usize::from(degree));
+    let mut tables = Tables::blank(usize::from(degree));
+    tables.fill(book);
     let mut best = Best::nobody();
     for u in 0..n {
         rank_one(&tables, u, sums, work, &mut best);

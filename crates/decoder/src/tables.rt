@@ -4,7 +4,6 @@ ghost use Rattle.kerdock.specs.Code.{Row, size, symbol, place};
 ghost use Rattle.kerdock.specs.Sound.{Sound};
 ghost use Rattle.kerdock.specs.Books.{Lawful};
 ghost use Rattle.decoder.specs.Cosets.{message as message_of};
-ghost use Rattle.decoder.specs.Rows.{Led};
 ghost use Rattle.decoder.specs.Visits.{times};
 
 use kerdock::books::CodeBook;
@@ -53,27 +52,26 @@ pub(crate) struct Tables {
 impl Tables {
     ghost use Rattle.decoder.specs.Tables.{Holds};
 
-    pub(crate) fn new(book: &CodeBook, degree: usize) -> Tables
+    // Tables to be filled.
+    pub(crate) fn blank(degree: usize) -> Tables
         requires two { 2 ≤ degree }
         requires seven { degree ≤ 7 }
-        ensures degree { result.degree ≡ degree }
-        ensures holds { (row : Row) → Sound row → row.degree ≡ degree → Lawful row book.now → Holds row result }
+        ensures { result.degree ≡ degree }
     {
-        let mut tables = Tables {
+        Tables {
             degree,
-            at: indices(book, 1 << degree),
+            at: [0; 256],
             leaders: [[0; 128]; 128],
-        };
-        tables.lead(book);
-        tables
+        }
     }
 
-    // Fills the leaders' rows, from that of coset 0: a coset with bit k added has the leader of 2 ^ k added.
-    fn lead(&mut self, book: &CodeBook)
+    // Fills the tables in their place: the leaders' rows from that of coset 0, since a coset with bit k added has the leader of
+    // 2 ^ k added.
+    pub(crate) fn fill(&mut self, book: &CodeBook)
         ensures degree { self.new.degree ≡ self.old.degree }
-        ensures at { self.new.at ≡ self.old.at }
-        ensures led { Led book.now self.old.degree self.old.at (2 ^ self.old.degree) self.new.leaders }
+        ensures holds { (row : Row) → Sound row → row.degree ≡ self.old.degree → Lawful row book.now → Holds row self.new }
     {
+        self.at = indices(book, 1 << self.degree);
         self.leaders[0] = [0; 128];
         for k in 0..self.degree {
             let unit = self.unit_row(book, k);

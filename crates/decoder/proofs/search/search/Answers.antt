@@ -7,8 +7,8 @@ use Rattle.decoder.specs.Visits.{Ranked, visit}
 use Rattle.decoder.proofs.Searching.{sized, score_limit, leader_found}
 use Rattle.decoder.proofs.search.search.Goals as goal
 
-pub new-tables-requires : goal.new-tables-requires
-new-tables-requires g c = let s = sized c.args.degree c.in_ok-n.n c.in_ok-n.ensures in record { two = omega arith; seven = omega arith }
+pub blank-tables-requires : goal.blank-tables-requires
+blank-tables-requires g c = let s = sized c.args.degree c.in_ok-n.n c.in_ok-n.ensures in record { two = omega arith; seven = omega arith }
 
 pub loop-u-init : goal.loop-u-init
 loop-u-init g c = λ lawful small.
@@ -23,15 +23,15 @@ loop-u-init g c = λ lawful small.
 pub rank_one-requires : goal.rank_one-requires
 rank_one-requires g c =
     let s = sized c.args.degree c.in_ok-n.n c.in_ok-n.ensures in
-    let n : c.in_ok-n.n ≡ 2 ^ c.new-tables.result.degree = s.power ∙ ap (λ (d : ℕ). 2 ^ d) (sym (c.new-tables.ensures.degree ∙ c.from.ensures)) in
+    let n : c.in_ok-n.n ≡ 2 ^ c.fill.new.self.degree = s.power ∙ ap (λ (d : ℕ). 2 ^ d) (sym (c.fill.ensures.degree ∙ c.blank-tables.ensures ∙ c.from.ensures)) in
     record { sums = omega arith; long = omega arith; coset = omega arith }
 
 pub loop-u-preserved : goal.loop-u-preserved
 loop-u-preserved g c = λ lawful small.
     let row = row_of c.args.degree in
     let s = sized c.args.degree c.in_ok-n.n c.in_ok-n.ensures in
-    let d : row.degree ≡ c.from.result = s.deg ∙ sym c.from.ensures in
-    c.rank_one.ensures.ranked row s.sound (d ∙ sym c.new-tables.ensures.degree) small (c.new-tables.ensures.holds row s.sound d lawful) (c.loop-u.invariant lawful small)
+    let d : row.degree ≡ c.blank-tables.result.degree = s.deg ∙ sym (c.blank-tables.ensures ∙ c.from.ensures) in
+    c.rank_one.ensures.ranked row s.sound (d ∙ sym c.fill.ensures.degree) small (c.fill.ensures.holds row s.sound d lawful) (c.loop-u.invariant lawful small)
 
 pub returns : goal.returns
 returns g c =
