@@ -1,14 +1,7 @@
 // The search over all cosets: the word that leads, its score and its margin.
-ghost use Rattle.std.specs.Prelude.{◌≡◌, ℕ, ◌+◌, ◌*◌, ◌^◌, ◌<◌, ◌≤◌, length, Some};
-ghost use Rattle.samples.specs.Sizes.{Within};
-ghost use Rattle.samples.specs.Transform.{loudest};
-ghost use Rattle.kerdock.specs.Code.{Row, size, messages};
-ghost use Rattle.kerdock.specs.Sound.{Sound};
-ghost use Rattle.decoder.specs.Scores.{score as score_of};
+ghost use Rattle.std.specs.Prelude.{Some};
 ghost use Rattle.decoder.specs.Leaders.{LeaderOf, line};
-ghost use Rattle.decoder.specs.Visits.{visit, Ranked};
-ghost use Rattle.decoder.specs.Tables.{Holds};
-ghost use Rattle.decoder.specs.Search.{meanings, Zeros, Searched};
+ghost use Rattle.decoder.specs.Search.{Zeros, Searched};
 
 use crate::ranking::Best;
 use crate::tables::Tables;
@@ -61,19 +54,6 @@ pub fn clean<S: Sample>(work: &mut [S])
     }
 }
 
-// Coset u: laid by its leader, transformed, and ranked.
-fn rank_one<S: Sample>(tables: &Tables, u: usize, sums: &[S], work: &mut [S], best: &mut Best)
-    requires sums { length sums.now ≡ 2 ^ tables.now.degree }
-    requires long { length work.old ≡ 2 ^ tables.now.degree }
-    requires coset { u < 2 ^ tables.now.degree }
-    ensures long { length work.new ≡ length work.old }
-    ensures ranked { (row : Row) → Sound row → row.degree ≡ tables.now.degree → Within S.Sample loudest sums.now → Holds row tables.now → Ranked (messages row) (score_of row (meanings S.Sample sums.now)) (visit row) (4 * (u * size row)) best.old → Ranked (messages row) (score_of row (meanings S.Sample sums.now)) (visit row) (4 * ((u + 1) * size row)) best.new }
-{
-    tables.lay(u, sums, work);
-    let _ = transform_sized(work, tables.degree);
-    best.rank_coset(work, u);
-}
-
 // The leading message over the sums. The sums stay as they are, and the work memory is left as zeros.
 pub fn search<S: Sample>(degree: u8, book: &CodeBook, sums: &[S], work: &mut [S]) -> Option<Leader>
     ensures { Searched S.Sample degree book.now sums.now work.old result work.new }
@@ -86,7 +66,9 @@ pub fn search<S: Sample>(degree: u8, book: &CodeBook, sums: &[S], work: &mut [S]
     tables.fill(book);
     let mut best = Best::nobody();
     for u in 0..n {
-        rank_one(&tables, u, sums, work, &mut best);
+        tables.lay(u, sums, work);
+        let _ = transform_sized(work, usize::from(degree));
+        best.rank_coset(work, u);
     }
     clean(work);
     Some(best.into())

@@ -38,7 +38,7 @@ fn sum_of(mut row: [u8; 128], unit: &[u8; 128]) -> [u8; 128]
 // What the search looks up, for words of 2 ^ degree symbols.
 #[derive(Drop)]
 pub(crate) struct Tables {
-    pub(crate) degree: usize,
+    degree: usize,
     // the index of each place
     at: [u8; 256],
     // row u: the leader of coset u, which is the word of e = 0 and L(k) = bit k of u, by place

@@ -1,10 +1,12 @@
-use Rattle.std.proofs.Common.{◌≡◌, ℕ, ◌*◌, ◌^◌, sym, ap, ◌∙◌, subst, zero-mul, arith}
-use Rattle.kerdock.specs.Code.{size, messages}
+use Rattle.std.proofs.Common.{◌≡◌, ℕ, ◌-◌, ◌*◌, ◌%◌, ◌^◌, T, length, get_or, sym, ap, ◌∙◌, subst, ap₂, zero-mul, arith}
+use Rattle.samples.specs.Transform.{loudest, Transformed}
+use Rattle.kerdock.specs.Code.{size, messages, place}
 use Rattle.kerdock.specs.Table.{row_of}
 use Rattle.decoder.specs.Scores.{score}
 use Rattle.decoder.specs.Search.{meanings}
-use Rattle.decoder.specs.Visits.{Ranked, visit}
-use Rattle.decoder.proofs.Searching.{sized, score_limit, leader_found}
+use Rattle.decoder.specs.Visits.{Ranked, Turnback, times, visit}
+use Rattle.decoder.proofs.Laying.{not_failed, coset_reads, coset_within, laid_within, loudest_fits}
+use Rattle.decoder.proofs.Searching.{Sized, sized, score_limit, leader_found}
 use Rattle.decoder.proofs.search.search.Goals as goal
 
 pub blank-tables-requires : goal.blank-tables-requires
@@ -20,18 +22,46 @@ loop-u-init g c = λ lawful small.
     let z : 0 ≡ 4 * (0 * size (row_of d)) = let e = zero-mul (size (row_of d)) in omega arith in
     subst (λ (t : ℕ). Ranked (messages (row_of d)) f (visit (row_of d)) t c.nobody-best.result) z start
 
-pub rank_one-requires : goal.rank_one-requires
-rank_one-requires g c =
+-- the tables' words have the degree's length
+long : (d n t f : ℕ) → Sized d n → t ≡ f → f ≡ d → n ≡ 2 ^ t
+long d n t f s e is = s.power ∙ ap (λ (k : ℕ). 2 ^ k) (sym (e ∙ is))
+
+pub lay-requires : goal.lay-requires
+lay-requires g c =
     let s = sized c.args.degree c.in_ok-n.n c.in_ok-n.ensures in
-    let n : c.in_ok-n.n ≡ 2 ^ c.fill.new.self.degree = s.power ∙ ap (λ (d : ℕ). 2 ^ d) (sym (c.fill.ensures.degree ∙ c.blank-tables.ensures ∙ c.from.ensures)) in
-    record { sums = omega arith; long = omega arith; coset = omega arith }
+    let n = long c.args.degree c.in_ok-n.n c.fill.new.self.degree c.from.result s (c.fill.ensures.degree ∙ c.blank-tables.ensures) c.from.ensures in
+    record { sums = omega arith; coset = omega arith; room = omega arith }
+
+pub rank_coset-requires : goal.rank_coset-requires
+rank_coset-requires g c = let s = sized c.args.degree c.in_ok-n.n c.in_ok-n.ensures in record { few = omega arith; coset = omega arith }
 
 pub loop-u-preserved : goal.loop-u-preserved
 loop-u-preserved g c = λ lawful small.
     let row = row_of c.args.degree in
+    let m = g.S.Sample in
     let s = sized c.args.degree c.in_ok-n.n c.in_ok-n.ensures in
+    let u = c.loop-u.u in
+    let sums = c.args.sums.now in
+    let laid = c.lay.new.work in
+    let done = c.transform_sized.new.w in
     let d : row.degree ≡ c.blank-tables.result.degree = s.deg ∙ sym (c.blank-tables.ensures ∙ c.from.ensures) in
-    c.rank_one.ensures.ranked row s.sound (d ∙ sym c.fill.ensures.degree) small (c.fill.ensures.holds row s.sound d lawful) (c.loop-u.invariant lawful small)
+    let holds = c.fill.ensures.holds row s.sound d lawful in
+    let whole : length sums ≡ size row = omega arith in
+    let width : length laid ≡ size row = omega arith in
+    let turned : Turnback m row u sums laid =
+    λ i b.
+    let w = s.sound.within i b in
+    c.lay.ensures (place row i) (omega arith)
+    ∙ ap₂ (λ (s k : ℕ). times m ((4 - s) % 4) (get_or sums k m.zeroed)) (holds.led u i (omega arith) b) (holds.found i b) in
+    let fits : T c.transform_sized.result =
+    not_failed c.transform_sized.result (λ no.
+    c.transform_sized.ensures.unfit no (let seven = s.seven in omega arith) (width ∙ sym s.long ∙ s.power ∙ ap (λ (k : ℕ). 2 ^ k) (sym c.from-in-loop-u.ensures))) in
+    let within = laid_within m row s.sound u sums laid whole width small turned in
+    let transformed : Transformed m laid done =
+    c.transform_sized.ensures.sums fits loudest within (loudest_fits (length laid) (omega arith)) in
+    c.rank_coset.ensures row (score row (meanings m sums)) s.sound (transformed.long ∙ width) (omega arith) (c.loop-u.invariant lawful small)
+    (coset_within m row s.sound u sums laid whole width small turned done transformed)
+    (coset_reads m row s.sound u sums laid whole width small turned done transformed)
 
 pub returns : goal.returns
 returns g c =
