@@ -67,7 +67,7 @@ pub fn search<S: Sample>(degree: u8, book: &CodeBook, sums: &[S], work: &mut [S]
     let mut best = Best::nobody();
     for u in 0..n {
         tables.lay(u, sums, work);
-        let _ = transform_sized(work, usize::from(degree));
+        transform_sized(work, usize::from(degree)).unwrap();
         best.rank_coset(work, u);
     }
     clean(work);

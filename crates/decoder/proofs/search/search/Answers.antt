@@ -1,11 +1,11 @@
-use Rattle.std.proofs.Common.{◌≡◌, ℕ, ◌-◌, ◌*◌, ◌%◌, ◌^◌, T, length, get_or, sym, ap, ◌∙◌, subst, ap₂, zero-mul, arith}
+use Rattle.std.proofs.Common.{◌≡◌, ℕ, ◌-◌, ◌*◌, ◌%◌, ◌^◌, ◌≤◌, ◌≢◌, length, get_or, sym, ap, ◌∙◌, subst, ap₂, zero-mul, arith}
 use Rattle.samples.specs.Transform.{loudest, Transformed}
 use Rattle.kerdock.specs.Code.{size, messages, place}
 use Rattle.kerdock.specs.Table.{row_of}
 use Rattle.decoder.specs.Scores.{score}
 use Rattle.decoder.specs.Search.{meanings}
 use Rattle.decoder.specs.Visits.{Ranked, Turnback, times, visit}
-use Rattle.decoder.proofs.Laying.{not_failed, coset_reads, coset_within, laid_within, loudest_fits}
+use Rattle.decoder.proofs.Laying.{never_refused, not_refused, coset_reads, coset_within, laid_within, loudest_fits}
 use Rattle.decoder.proofs.Searching.{Sized, sized, score_limit, leader_found}
 use Rattle.decoder.proofs.search.search.Goals as goal
 
@@ -35,6 +35,16 @@ lay-requires g c =
 pub rank_coset-requires : goal.rank_coset-requires
 rank_coset-requires g c = let s = sized c.args.degree c.in_ok-n.n c.in_ok-n.ensures in record { few = omega arith; coset = omega arith }
 
+-- the length and the degree of a transform that cannot be refused
+fits : (d n k w : ℕ) → Sized d n → k ≡ d → w ≡ n → (k ≤ 7 → w ≢ 2 ^ k) → ⊥
+fits d n k w s e same unfit = let seven = s.seven in unfit (omega arith) (same ∙ s.power ∙ ap (λ (k : ℕ). 2 ^ k) (sym e))
+
+pub unwrap-requires : goal.unwrap-requires
+unwrap-requires g c =
+    let s = sized c.args.degree c.in_ok-n.n c.in_ok-n.ensures in
+    never_refused c.transform_sized.result c.transform_sized.ensures.unfit
+    (fits c.args.degree c.in_ok-n.n c.from-in-loop-u.result (length c.lay.new.work) s c.from-in-loop-u.ensures (omega arith))
+
 pub loop-u-preserved : goal.loop-u-preserved
 loop-u-preserved g c = λ lawful small.
     let row = row_of c.args.degree in
@@ -53,12 +63,11 @@ loop-u-preserved g c = λ lawful small.
     let w = s.sound.within i b in
     c.lay.ensures (place row i) (omega arith)
     ∙ ap₂ (λ (s k : ℕ). times m ((4 - s) % 4) (get_or sums k m.zeroed)) (holds.led u i (omega arith) b) (holds.found i b) in
-    let fits : T c.transform_sized.result =
-    not_failed c.transform_sized.result (λ no.
-    c.transform_sized.ensures.unfit no (let seven = s.seven in omega arith) (width ∙ sym s.long ∙ s.power ∙ ap (λ (k : ℕ). 2 ^ k) (sym c.from-in-loop-u.ensures))) in
     let within = laid_within m row s.sound u sums laid whole width small turned in
     let transformed : Transformed m laid done =
-    c.transform_sized.ensures.sums fits loudest within (loudest_fits (length laid) (omega arith)) in
+    not_refused c.transform_sized.result c.transform_sized.ensures.unfit
+    (fits c.args.degree c.in_ok-n.n c.from-in-loop-u.result (length laid) s c.from-in-loop-u.ensures (omega arith))
+    c.transform_sized.ensures.sums loudest within (loudest_fits (length laid) (omega arith)) in
     c.rank_coset.ensures row (score row (meanings m sums)) s.sound (transformed.long ∙ width) (omega arith) (c.loop-u.invariant lawful small)
     (coset_within m row s.sound u sums laid whole width small turned done transformed)
     (coset_reads m row s.sound u sums laid whole width small turned done transformed)
