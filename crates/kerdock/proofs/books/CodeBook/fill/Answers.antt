@@ -10,17 +10,6 @@ use Rattle.kerdock.proofs.books.CodeBook.fill.Goals as goal
 pub slice_bounds-place-items-end : goal.slice_bounds-place-items-end
 slice_bounds-place-items-end c = let f = row_facts c.args.row.now in omega arith
 
-pub loop-j-init : goal.loop-j-init
-loop-j-init c = λ k h. absurd (omega arith)
-
-pub place-requires : goal.place-requires
-place-requires c =
-    let f = row_facts c.args.row.now in
-    let n = c.args.row.now.length in
-    let long = length-between {X = ℕ} (replicate 128 0) 1 n f.fits in
-    let b : c.loop-j.j < n - 1 = subst (λ (x : ℕ). c.loop-j.j < x) long c.loop-j-test.true in
-    rw c.new-traces.ensures (omega arith)
-
 pub loop-j-preserved : goal.loop-j-preserved
 loop-j-preserved c =
     let row = row_of c.args.row.now.degree in
