@@ -33,6 +33,7 @@ impl Reading<'_> {
         ensures bits { (bit : ℕ → ℕ) → ((k i : ℕ) → k < self.now.code.now.row.degree → i < size (row_of self.now.code.now.row.degree) → place (row_of self.now.code.now.row.degree) i ≡ 2 ^ k → (slice_index self.now.list.now i + 4 - symbol (row_of self.now.code.now.row.degree) known i) % 4 / divisor % 2 ≡ bit k) → result ≡ sum_to (λ k. 4 ^ suc k * bit k) self.now.code.now.row.degree }
     {
         let mut sum = 0;
+        // stays: k is a bit of a place, and there is no slice to go along
         for k in 0..self.code.row.degree {
             let at = self.code.index_of(1 << k);
             let above = (self.list[at] + 4 - self.code.symbol(known, at)) % 4;
@@ -71,6 +72,7 @@ pub fn read_back(degree: u8, list: &[u8]) -> Result<u32, Refusal>
     if list.len() != row.length {
         return Err(Refusal::Memory);
     }
+    // stays: what is found is refused, and `ok_or` goes the other way
     if let Some(index) = first_above(list) {
         return Err(Refusal::Symbol(index));
     }
