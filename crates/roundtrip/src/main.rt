@@ -36,6 +36,7 @@ impl Tally {
         if word.is_empty() {
             return;
         }
+        // stays: `usize` has no `From<u32>`
         let index = message as usize % word.len();
         word[index] = (word[index] & 3) ^ 1;
         if read_back(degree, word) == Err(Refusal::NoWord) {
@@ -90,6 +91,7 @@ fn report_book(rt: &HostRuntime) -> anyhow::Result<()> {
     Ok(())
 }
 
+// stays: each report says its answer in its own words, and one function for all would be handed them as text that needs memory
 fn report_word(rt: &HostRuntime, degree: u8, message: u32, word: &mut [u8]) -> anyhow::Result<()> {
     match encode(degree, message, word) {
         Ok(()) => println!(rt; "degree {degree}, message {message}: {word:?}")?,

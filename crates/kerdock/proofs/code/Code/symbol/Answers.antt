@@ -10,9 +10,6 @@ use Rattle.kerdock.proofs.code.Code.symbol.Goals as goal
 pub returns-then-index-eq0 : goal.returns-then-index-eq0
 returns-then-index-eq0 c = c.digit-sum.ensures ∙ sym (digit_first c.args.message) ∙ symbol_first (row_of c.args.self.now.row.degree) c.args.message c.args.index (omega arith)
 
-pub loop-k-init : goal.loop-k-init
-loop-k-init c = let e = digit_first c.args.message in (omega (arith, c.digit-sum.ensures), omega (arith, c.digit-sum.ensures))
-
 pub overflow_add-index : goal.overflow_add-index
 overflow_add-index c = let f = row_facts c.args.self.now.row in omega (arith, c.requires)
 

@@ -46,7 +46,5 @@ loop-j-preserved c =
       past_more c.loop-j.traces c.loop-j.j c.next_trace.result c.loop-j.invariant.1,
     )
 
-pub returns : goal.returns
-returns c =
-    let f = row_facts c.args.self.now in
-    record { filled = λ j h. c.loop-j.invariant.0 j (omega arith); past = λ j h. c.loop-j.invariant.1 j (omega arith) }
+pub returns-clause-past : goal.returns-clause-past
+returns-clause-past c = let f = row_facts c.args.self.now in λ j h. c.loop-j.invariant.1 j (omega arith)

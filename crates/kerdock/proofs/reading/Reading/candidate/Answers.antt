@@ -6,7 +6,7 @@ use Rattle.kerdock.specs.declared.rows.TableRow.{TableRow}
 use Rattle.kerdock.proofs.RowFacts.{row_facts}
 use Rattle.kerdock.proofs.Words.{messages_are}
 use Rattle.kerdock.proofs.Candidates.{first_is, lower_bit, upper_bit, whole}
-use Rattle.kerdock.proofs.code.Code.candidate.Goals as goal
+use Rattle.kerdock.proofs.reading.Reading.candidate.Goals as goal
 
 -- there are at most 65,536 messages
 few : (r : TableRow) → 4 ^ suc r.degree ≤ 65536
@@ -17,24 +17,24 @@ few r =
 
 pub overflow_add-lower : goal.overflow_add-lower
 overflow_add-lower c =
-    let w = few c.args.self.now.row in
-    let s = c.requires.small 0 in omega arith
+    let w = few c.args.self.now.code.now.row in
+    let s = c.args.self.now.small 0 in omega arith
 
 pub overflow_mul-result : goal.overflow_mul-result
-overflow_mul-result c = let w = few c.args.self.now.row in omega arith
+overflow_mul-result c = let w = few c.args.self.now.code.now.row in omega arith
 
 pub overflow_add-result : goal.overflow_add-result
 overflow_add-result c =
-    let w = few c.args.self.now.row in
-    let s = c.requires.small 0 in omega arith
+    let w = few c.args.self.now.code.now.row in
+    let s = c.args.self.now.small 0 in omega arith
 
 pub returns : goal.returns
 returns c =
-    let r = c.args.self.now.row in
+    let r = c.args.self.now.code.now.row in
     let f = row_facts r in
     let row = row_of r.degree in
-    let list = c.args.list.now in
-    let s = c.requires.small 0 in
+    let list = c.args.self.now.list.now in
+    let s = c.args.self.now.small 0 in
     let all : messages row ≡ 4 ^ suc r.degree = messages_are row ∙ ap (λ (x : ℕ). 4 ^ suc x) f.deg in
     record {
       range = omega arith;
