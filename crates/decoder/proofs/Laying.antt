@@ -1,5 +1,6 @@
 -- A coset, laid and transformed: its samples read the scores of its messages.
-use Rattle.std.proofs.Common.{◌≡◌, ℕ, zero, suc, ◌+◌, ◌-◌, ◌*◌, ◌%◌, ◌^◌, ◌<◌, ◌≤◌, Bool, true, false, T, List, length, get_or, sym, ap, ◌∙◌, mul-le-mul_right, arith, pow_mono}
+use Rattle.std.proofs.Common.{◌≡◌, ℕ, zero, suc, ◌+◌, ◌-◌, ◌*◌, ◌%◌, ◌^◌, ◌<◌, ◌≤◌, List, length, get_or, sym, refl, ap, ◌∙◌, mul-le-mul_right, arith, pow_mono}
+use Rattle.std.specs.Prelude.{Ok, Err, Result, IsOk, OnOk, OnErr}
 use Rattle.std.proofs.lemmas.List.{get_or-map}
 use Rattle.samples.specs.Meaning.{reads, silence, over}
 use Rattle.samples.specs.Kind.{limit}
@@ -18,10 +19,15 @@ use Rattle.decoder.specs.Visits.{times, Turnback}
 use Rattle.decoder.proofs.CosetScores.{coset_scores}
 use Rattle.decoder.proofs.SampleTurns.{times_size, times_reads}
 
--- a test that cannot fail passes
-pub not_failed : (b : Bool) → ((T b → ⊥) → ⊥) → T b
-not_failed true h = tt
-not_failed false h = h (λ x. x)
+-- an outcome is no refusal, if it can be none
+pub never_refused : {X E Q : Type 0} (r : Result X E) → OnErr r Q → (Q → ⊥) → IsOk r
+never_refused (Ok x) unfit fits = refl
+never_refused (Err e) unfit fits = absurd (fits unfit)
+
+-- what an outcome promises where it is no refusal, if it can be none
+pub not_refused : {X E P Q : Type 0} (r : Result X E) → OnErr r Q → (Q → ⊥) → OnOk r P → P
+not_refused (Ok x) unfit fits p = p
+not_refused (Err e) unfit fits p = absurd (fits unfit)
 
 -- three turns for each that is left of s are s turns, modulo 4
 turned_back : (e s : ℕ) → s < 4 → (e + 3 * ((4 - s) % 4)) % 4 ≡ (e + s) % 4

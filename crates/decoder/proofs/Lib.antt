@@ -15,6 +15,7 @@ pub mod PassingOver
 pub mod VisitTimes
 pub mod SampleTurns
 pub mod Spreads
+pub mod Powers
 pub mod Writes
 pub mod UnitRows
 pub mod Leaders

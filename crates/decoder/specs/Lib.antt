@@ -4,5 +4,8 @@ pub mod Laws
 pub mod Cosets
 pub mod Visits
 pub mod Turnbacks
+pub mod Rows
+pub mod Leaders
+pub mod Tables
 pub mod Search
 pub mod Examples

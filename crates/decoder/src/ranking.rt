@@ -1,5 +1,5 @@
 // The ranking of messages by their scores.
-ghost use Rattle.std.specs.Prelude.{◌≡◌, ℕ, ◌+◌, ◌*◌, ◌^◌, ◌<◌, ◌≤◌, true, T, length, ℤ, ◌≤ℤ◌, ◌<ℤ◌, unsigned_abs};
+ghost use Rattle.std.specs.Prelude.{◌≡◌, ℕ, ◌+◌, ◌*◌, ◌^◌, ◌<◌, ◌≤◌, ◌↔◌, IsTrue, length, ℤ, ◌≤ℤ◌, ◌<ℤ◌, unsigned_abs};
 ghost use Rattle.samples.specs.Kind.{limit};
 ghost use Rattle.samples.specs.Meaning.{reads};
 ghost use Rattle.samples.specs.Sizes.{Within};
@@ -12,50 +12,75 @@ ghost use Rattle.decoder.specs.Visits.{Ranked, Apart, visit, Here};
 use samples::Sample;
 
 // The best message so far, its score, and the best score of any other.
-#[derive(Clone, Copy)]
+#[derive(Clone, Copy, PartialEq, Eq, Debug)]
 pub(crate) struct Best {
     pub(crate) message: u32,
     pub(crate) score: i32,
     pub(crate) rival: i32,
 }
 
-// No message so far: every score within the kinds' limit is above these.
-pub(crate) fn nobody() -> Best
-    ensures { (n : ℕ) (f : ℕ → ℤ) (key : ℕ → ℕ) → ((k : ℕ) → k < n → unsigned_abs (f k) ≤ limit) → Ranked n f key 0 result }
-{
-    Best {
-        message: 0,
-        score: i32::MIN,
-        rival: i32::MIN,
-    }
-}
-
-// One message more: it takes the lead with a higher score, or an equal one and a smaller number.
-pub(crate) fn consider(best: Best, message: u32, score: i32) -> Best
-    ensures { (n : ℕ) (f : ℕ → ℤ) (key : ℕ → ℕ) (t : ℕ) → Ranked n f key t best → Apart n key → message < n → key message ≡ t → f message ≡ score → Ranked n f key (t + 1) result }
-{
-    if score > best.score || score == best.score && message < best.message {
+impl Best {
+    // No message so far: every score within the kinds' limit is above these.
+    pub(crate) fn nobody() -> Best
+        ensures { (n : ℕ) (f : ℕ → ℤ) (key : ℕ → ℕ) → ((k : ℕ) → k < n → unsigned_abs (f k) ≤ limit) → Ranked n f key 0 result }
+    {
         Best {
-            message,
-            score,
-            rival: best.score,
+            message: 0,
+            score: i32::MIN,
+            rival: i32::MIN,
         }
-    } else if score > best.rival {
-        Best {
-            message: best.message,
-            score: best.score,
-            rival: score,
-        }
-    } else {
-        best
     }
-}
 
-// Whether no score up to `top` can change the ranking. At the best score itself a smaller message still could.
-fn passes_over(best: Best, top: i32) -> bool
-    ensures { T result → (top ≤ℤ best.rival) × (top <ℤ best.score) }
-{
-    top <= best.rival && top < best.score
+    // One message more: it takes the lead with a higher score, or an equal one and a smaller number.
+    fn consider(&mut self, message: u32, score: i32)
+        ensures { (n : ℕ) (f : ℕ → ℤ) (key : ℕ → ℕ) (t : ℕ) → Ranked n f key t self.old → Apart n key → message < n → key message ≡ t → f message ≡ score → Ranked n f key (t + 1) self.new }
+    {
+        if score > self.score || score == self.score && message < self.message {
+            *self = Best {
+                message,
+                score,
+                rival: self.score,
+            };
+        } else if score > self.rival {
+            self.rival = score;
+        }
+    }
+
+    // Whether no score up to `top` can change the ranking. At the best score itself a smaller message still could.
+    fn passes_over(&self, top: i32) -> bool
+        ensures { IsTrue result ↔ (top ≤ℤ self.now.rival) × (top <ℤ self.now.score) }
+    {
+        top <= self.rival && top < self.score
+    }
+
+    // Ranks the four messages that the sample at one place reads, by the symbols 0, 3, 2, 1.
+    fn rank_place<S: Sample>(&mut self, mut x: S, base: u32)
+        requires { base ≤ 65532 }
+        ensures { (n : ℕ) (f : ℕ → ℤ) (key : ℕ → ℕ) (t : ℕ) → Ranked n f key t self.old → Apart n key → (S.means x).size ≤ limit → ((e : ℕ) → e < 4 → Here n f key t base (S.means x) e) → Ranked n f key (t + 4) self.new }
+    {
+        for symbol in [0, 3, 2, 1] {
+            self.consider(base + symbol, x.front());
+            x = x.turn();
+        }
+    }
+
+    // Ranks the messages of coset u, whose scores the transformed samples read. A coset whose greatest reading cannot change
+    // the ranking is passed over whole, and so is such a place.
+    pub(crate) fn rank_coset<S: Sample>(&mut self, work: &[S], u: usize)
+        requires few { length work.now ≤ 128 }
+        requires coset { u < 128 }
+        ensures { (row : Row) (f : ℕ → ℤ) → Sound row → length work.now ≡ size row → u < size row → Ranked (messages row) f (visit row) (4 * (u * size row)) self.old → Within S.Sample limit work.now → ((v e : ℕ) → v < size row → e < 4 → f (message_of row e u v) ≡ reading_at S.Sample work.now v e) → Ranked (messages row) f (visit row) (4 * ((u + 1) * size row)) self.new }
+    {
+        if self.passes_over(peak(work)) {
+            return;
+        }
+        let lower = spread(u as u32);
+        for (v, x) in work.iter().enumerate() {
+            if !self.passes_over(peak_of(*x)) {
+                self.rank_place(*x, 4 * (lower + 2 * spread(v as u32)));
+            }
+        }
+    }
 }
 
 // The greatest of the four readings of a sample.
@@ -73,58 +98,20 @@ fn peak<S: Sample>(work: &[S]) -> i32
     ensures { Within S.Sample limit work.now → (v e : ℕ) → v < length work.now → e < 4 → reading_at S.Sample work.now v e ≤ℤ result }
 {
     let mut peak = i32::MIN;
-    for x in work.iter() {
+    for x in work {
         peak = peak.max(peak_of(*x));
     }
     peak
 }
 
 // The seven lowest bits of a number, bit k as the base-4 digit k.
-pub(crate) fn spread(x: u32) -> u32
+fn spread(x: u32) -> u32
     ensures is { result ≡ sum_to (λ k. 4 ^ k * bit x k) 7 }
     ensures below { 3 * result < 4 ^ 7 }
 {
-    let mut sum: u32 = 0;
-    let mut weight: u32 = 1;
-    let mut rest = x;
-    for _ in 0..7u32 {
-        sum += weight * (rest % 2);
-        weight *= 4;
-        rest /= 2;
+    let mut sum = 0;
+    for k in (0..7u32).rev() {
+        sum = 4 * sum + (x >> k) % 2;
     }
     sum
-}
-
-// Ranks the four messages that the sample at one place reads, by the symbols 0, 3, 2, 1.
-fn rank_place<S: Sample>(best: Best, x: S, base: u32) -> Best
-    requires { base ≤ 65532 }
-    ensures { (n : ℕ) (f : ℕ → ℤ) (key : ℕ → ℕ) (t : ℕ) → Ranked n f key t best → Apart n key → (S.means x).size ≤ limit → ((e : ℕ) → e < 4 → Here n f key t base (S.means x) e) → Ranked n f key (t + 4) result }
-{
-    let mut best = best;
-    let mut x = x;
-    for k in 0..4 {
-        best = consider(best, base + (4 - k) % 4, x.front());
-        x = x.turn();
-    }
-    best
-}
-
-// Ranks the messages of coset u, whose scores the transformed samples read. A coset whose greatest reading cannot change the
-// ranking is passed over whole, and so is such a place.
-pub(crate) fn rank_coset<S: Sample>(best: Best, work: &[S], u: usize) -> Best
-    requires few { length work.now ≤ 128 }
-    requires coset { u < 128 }
-    ensures { (row : Row) (f : ℕ → ℤ) → Sound row → length work.now ≡ size row → u < size row → Ranked (messages row) f (visit row) (4 * (u * size row)) best → Within S.Sample limit work.now → ((v e : ℕ) → v < size row → e < 4 → f (message_of row e u v) ≡ reading_at S.Sample work.now v e) → Ranked (messages row) f (visit row) (4 * ((u + 1) * size row)) result }
-{
-    if passes_over(best, peak(work)) {
-        return best;
-    }
-    let lower = spread(u as u32);
-    let mut best = best;
-    for (v, x) in work.iter().enumerate() {
-        if !passes_over(best, peak_of(*x)) {
-            best = rank_place(best, *x, 4 * (lower + 2 * spread(v as u32)));
-        }
-    }
-    best
 }

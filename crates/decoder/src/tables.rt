@@ -1,5 +1,5 @@
-// Tables of one search, the index of each place and the coset leaders by place, and the laying of the sums by them.
-ghost use Rattle.std.specs.Prelude.{◌≡◌, ℕ, ◌+◌, ◌-◌, ◌*◌, ◌%◌, ◌^◌, ◌<◌, ◌≤◌, length, slice_index, slice_index_or};
+// Tables of one search: the index of each place, and the leader of each coset by place.
+ghost use Rattle.std.specs.Prelude.{◌≡◌, ℕ, ◌+◌, ◌-◌, ◌%◌, ◌^◌, ◌<◌, ◌≤◌, [], length, slice_index, slice_index_or};
 ghost use Rattle.kerdock.specs.Code.{Row, size, symbol, place};
 ghost use Rattle.kerdock.specs.Sound.{Sound};
 ghost use Rattle.kerdock.specs.Books.{Lawful};
@@ -10,97 +10,110 @@ use kerdock::books::CodeBook;
 use samples::Sample;
 
 // The index of each place, as a lawful book has it; whatever the book holds, an index below n.
-pub(crate) fn indices(book: &CodeBook, n: usize) -> [u8; 256]
+fn indices(book: &CodeBook, n: usize) -> [u8; 256]
     requires some { 0 < n }
     requires few { n ≤ 128 }
     ensures below { (p : ℕ) → slice_index result p < n }
     ensures found { (row : Row) → Sound row → size row ≡ n → Lawful row book.now → (i : ℕ) → i < n → slice_index result (place row i) ≡ i }
 {
-    let mut at = [0u8; 256];
-    for i in 0..n {
-        at[book.places[i] as usize] = i as u8;
+    let mut at = [0; 256];
+    for (i, place) in book.places[..n].iter().enumerate() {
+        at[usize::from(*place)] = i as u8;
     }
     at
 }
 
-// The leader of the coset 2 ^ k, by place: the traces k on from each index.
-fn unit_row(book: &CodeBook, n: usize, k: usize, at: &[u8; 256]) -> [u8; 128]
-    requires some { 1 < n }
-    requires few { n ≤ 128 }
-    requires before { k < n }
-    requires within { (p : ℕ) → slice_index at.now p < n }
-    ensures small { (p : ℕ) → slice_index result p < 4 }
-    ensures is { (row : Row) → Sound row → size row ≡ n → k < row.degree → Lawful row book.now → (p : ℕ) → p < n → slice_index result p ≡ symbol row (message_of row 0 (2 ^ k) 0) (slice_index at.now p) }
+// A row of symbols plus another, place by place.
+fn sum_of(mut row: [u8; 128], unit: &[u8; 128]) -> [u8; 128]
+    requires row { (p : ℕ) → slice_index row p < 4 }
+    requires unit { (p : ℕ) → slice_index unit.now p < 4 }
+    ensures { (p : ℕ) → slice_index result p ≡ (slice_index row p + slice_index unit.now p) % 4 }
 {
-    let period = n - 1;
-    let mut out = [0u8; 128];
-    for p in 0..n {
-        let index = at[p] as usize;
-        if index > 0 {
-            let j = index - 1 + k;
-            out[p] = book.traces[if j < period { j } else { j - period }] & 3;
+    for (p, symbol) in row.iter_mut().enumerate() {
+        *symbol = (*symbol + unit[p]) & 3;
+    }
+    row
+}
+
+// What the search looks up, for words of 2 ^ degree symbols.
+#[derive(Drop)]
+pub(crate) struct Tables {
+    degree: usize,
+    // the index of each place
+    at: [u8; 256],
+    // row u: the leader of coset u, which is the word of e = 0 and L(k) = bit k of u, by place
+    leaders: [[u8; 128]; 128],
+    ghost two: { 2 ≤ degree },
+    ghost seven: { degree ≤ 7 },
+    ghost within: { (p : ℕ) → slice_index at p < 2 ^ degree },
+    ghost small: { (u p : ℕ) → slice_index (slice_index_or leaders u []) p < 4 },
+}
+
+impl Tables {
+    ghost use Rattle.decoder.specs.Tables.{Holds};
+
+    // Tables to be filled.
+    pub(crate) fn blank(degree: usize) -> Tables
+        requires two { 2 ≤ degree }
+        requires seven { degree ≤ 7 }
+        ensures { result.degree ≡ degree }
+    {
+        Tables {
+            degree,
+            at: [0; 256],
+            leaders: [[0; 128]; 128],
         }
     }
-    out
-}
 
-// Fills row `from + half` of the leaders as row `from` plus the unit row.
-fn add_row(out: &mut [u8; 16384], from: usize, half: usize, n: usize, unit: &[u8; 128])
-    requires before { from < half }
-    requires light { half ≤ 64 }
-    requires few { n ≤ 128 }
-    requires small { (k : ℕ) → slice_index out.old k < 4 }
-    requires unit_small { (p : ℕ) → slice_index unit.now p < 4 }
-    ensures small { (k : ℕ) → slice_index out.new k < 4 }
-    ensures here { (p : ℕ) → p < n → slice_index out.new ((from + half) * 128 + p) ≡ (slice_index out.old (from * 128 + p) + slice_index unit.now p) % 4 }
-    ensures elsewhere { (k : ℕ) → k < (from + half) * 128 → slice_index out.new k ≡ slice_index out.old k }
-{
-    for p in 0..n {
-        out[(from + half) * 128 + p] = (out[from * 128 + p] + unit[p]) & 3;
-    }
-}
-
-// The leaders of all cosets, by place: row u holds the word of e = 0 and L(k) = bit k of u.
-pub(crate) fn leaders(book: &CodeBook, n: usize, degree: usize, at: &[u8; 256]) -> [u8; 16384]
-    requires long { n ≡ 2 ^ degree }
-    requires some { 0 < degree }
-    requires seven { degree ≤ 7 }
-    requires within { (p : ℕ) → slice_index at.now p < n }
-    ensures small { (k : ℕ) → slice_index result k < 4 }
-    ensures is { (row : Row) → Sound row → row.degree ≡ degree → Lawful row book.now → (u p : ℕ) → u < n → p < n → slice_index result (u * 128 + p) ≡ symbol row (message_of row 0 u 0) (slice_index at.now p) }
-{
-    let mut out = [0u8; 16384];
-    let mut half = 1;
-    for k in 0..degree {
-        let unit = unit_row(book, n, k, at);
-        for u in 0..half {
-            add_row(&mut out, u, half, n, &unit);
+    // Fills the tables in their place: the leaders' rows from that of coset 0, since a coset with bit k added has the leader of
+    // 2 ^ k added.
+    pub(crate) fn fill(&mut self, book: &CodeBook)
+        ensures degree { self.new.degree ≡ self.old.degree }
+        ensures holds { (row : Row) → Sound row → row.degree ≡ self.old.degree → Lawful row book.now → Holds row self.new }
+    {
+        self.at = indices(book, 1 << self.degree);
+        self.leaders[0] = [0; 128];
+        for k in 0..self.degree {
+            let unit = self.unit_row(book, k);
+            let half = 1 << k;
+            for u in 0..half {
+                self.leaders[half + u] = sum_of(self.leaders[u], &unit);
+            }
         }
-        half *= 2;
     }
-    out
-}
 
-// Lays the sums by place, each turned back along the leader of coset u: back by s is forward by 4 - s.
-pub(crate) fn lay<S: Sample>(
-    sums: &[S],
-    at: &[u8; 256],
-    leaders: &[u8; 16384],
-    u: usize,
-    work: &mut [S],
-)
-    requires some { 4 ≤ length sums.now }
-    requires coset { u < 128 }
-    requires room { length work.old ≤ 128 }
-    requires within { (p : ℕ) → slice_index at.now p < length sums.now }
-    requires small { (k : ℕ) → slice_index leaders.now k < 4 }
-    ensures { (p : ℕ) → p < length work.new → slice_index_or work.new p S.zeroed ≡ times S.Sample ((4 - slice_index leaders.now (u * 128 + p)) % 4) (slice_index_or sums.now (slice_index at.now p) S.zeroed) }
-{
-    for p in 0..work.len() {
-        let x = sums[at[p] as usize];
-        let y = x.turn();
-        let z = y.turn();
-        let turned = [x, z.turn(), z, y];
-        work[p] = turned[leaders[u * 128 + p] as usize];
+    // The leader of the coset 2 ^ k, by place: the traces k on from each index.
+    fn unit_row(&self, book: &CodeBook, k: usize) -> [u8; 128]
+        requires { k < self.now.degree }
+        ensures small { (p : ℕ) → slice_index result p < 4 }
+        ensures is { (row : Row) → Sound row → row.degree ≡ self.now.degree → Lawful row book.now → (p : ℕ) → p < 2 ^ self.now.degree → slice_index result p ≡ symbol row (message_of row 0 (2 ^ k) 0) (slice_index self.now.at p) }
+    {
+        let n = 1 << self.degree;
+        let period = n - 1;
+        let mut unit = [0; 128];
+        for (p, index) in self.at[..n].iter().enumerate() {
+            if *index > 0 {
+                let j = usize::from(*index) - 1 + k;
+                unit[p] = book.traces[if j < period { j } else { j - period }] & 3;
+            }
+        }
+        unit
+    }
+
+    // Lays the sums by place, each turned back along the leader of coset u: back by s is forward by 4 - s.
+    pub(crate) fn lay<S: Sample>(&self, u: usize, sums: &[S], work: &mut [S])
+        requires sums { length sums.now ≡ 2 ^ self.now.degree }
+        requires coset { u < 128 }
+        requires room { length work.old ≤ 128 }
+        ensures { (p : ℕ) → p < length work.new → slice_index_or work.new p S.zeroed ≡ times S.Sample ((4 - slice_index (slice_index_or self.now.leaders u []) p) % 4) (slice_index_or sums.now (slice_index self.now.at p) S.zeroed) }
+    {
+        let leader = &self.leaders[u];
+        for (p, sample) in work.iter_mut().enumerate() {
+            let x = sums[usize::from(self.at[p])];
+            let y = x.turn();
+            let z = y.turn();
+            let turned = [x, z.turn(), z, y];
+            *sample = turned[usize::from(leader[p])];
+        }
     }
 }

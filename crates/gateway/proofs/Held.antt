@@ -1,5 +1,6 @@
 -- One reception of the file more is held.
-use Rattle.std.proofs.Common.{◌≡◌, ℕ, ◌+◌, ◌<◌, List, [], ◌∷◌, ◌++◌, length, get_or, None, Option, sym, ◌∙◌, subst, arith, length-append, below_more}
+use Rattle.std.proofs.Common.{◌≡◌, ℕ, ◌+◌, ◌<◌, List, [], ◌∷◌, ◌++◌, length, get_or, None, Option, Ok, Err, Result, sym, refl, ◌∙◌, subst, arith, length-append, below_more}
+use Rattle.std.specs.Result.{IsOk}
 use Rattle.std.proofs.lemmas.List.{get_or_append_left, get_or_push}
 use Rattle.samples.specs.Meaning.{silence}
 use Rattle.samples.specs.declared.sample.Sample.{Ghosts}
@@ -19,6 +20,11 @@ use Rattle.bay_calls.proofs.Means.{as_many, meaning_at}
 use Rattle.gateway.specs.Receptions.{samples_at}
 use Rattle.gateway.specs.Partly.{SampleAt, FirstOnes, Took}
 use Rattle.gateway.proofs.Due.{free_take}
+
+-- an answer that is no error is one that was made
+pub ok_unless : {A E : Type 0} (r : Result A E) → ((e : E) → r ≡ Err e → ⊥) → IsOk r
+ok_unless (Ok x) never = refl
+ok_unless (Err e) never = absurd (never e refl)
 
 -- where no denial is due, what is granted holds
 pub granted_then : (x : Option Denial) (a : Answer) (P : Type 0) → x ≡ None → Unless x a P → P

@@ -6,6 +6,7 @@ ghost use Rattle.bay_calls.specs.Seen.{state};
 ghost use Rattle.gateway.specs.Receptions.{samples_at};
 ghost use Rattle.gateway.specs.Partly.{Took, Ripe, Settles, Settled};
 
+use crate::decoding::samples_in;
 use bay_calls::{Bay, Numbers};
 use reception_file::{Head, Stored, pick};
 use samples::Sample;
@@ -19,14 +20,8 @@ fn take_one<S: Stored>(bytes: &[u8], number: usize, bay: &mut Bay<'_, S>, memory
     requires took { Took S.Sample S.Stored.own bytes.now number (state S.Sample bay.old) }
     ensures { Took S.Sample S.Stored.own bytes.now (number + 1) (state S.Sample bay.new) }
 {
-    match pick(bytes, number, memory) {
-        Ok(_) => {}
-        Err(_) => unreachable(),
-    }
-    match bay.take(memory) {
-        Ok(_) => {}
-        Err(_) => unreachable(),
-    }
+    let _degree = pick(bytes, number, memory).unwrap();
+    let _held = bay.take(memory).unwrap();
 }
 
 /// Decides, and accepts the verdict.
@@ -34,37 +29,27 @@ fn settle<S: Sample>(bay: &mut Bay<'_, S>, work: &mut [S]) -> Numbers
     requires { Ripe (state S.Sample bay.old) (length work.old) }
     ensures { Settles (state S.Sample bay.old) result }
 {
-    match bay.decide(work) {
-        Ok(verdict) => {
-            let numbers = verdict.numbers();
-            match bay.accept(verdict) {
-                Ok(_) => numbers,
-                Err(_) => unreachable(),
-            }
-        }
-        Err(_) => unreachable(),
-    }
+    let verdict = bay.decide(work).unwrap();
+    let numbers = verdict.numbers();
+    let _message = bay.accept(verdict).unwrap();
+    numbers
 }
 
-/// The verdict over the receptions of a file, with memory for one reception each for the sums, the search and the picking.
-pub(crate) fn decode_with<S: Stored>(
-    bytes: &[u8],
-    head: Head,
-    sums: &mut [S],
-    work: &mut [S],
-    memory: &mut [S],
-) -> Numbers
+/// The verdict over the receptions of a file, with memory of the longest reception each for the sums, the search and the
+/// picking.
+pub(crate) fn decode_as<S: Stored>(bytes: &[u8], head: Head, zeros: [S; 128]) -> Numbers
     requires file { Accepted bytes.now }
     requires heads { Heads bytes.now head }
     requires kind { at bytes.now 5 ≡ S.Stored.code }
-    requires sums { length sums.old ≡ samples_at bytes.now }
-    requires work { length work.old ≡ samples_at bytes.now }
-    requires memory { length memory.old ≡ samples_at bytes.now }
     ensures { Settled S.Sample S.Stored.own bytes.now result }
 {
-    let mut bay = Bay::open(head.degree, sums);
-    for r in 0..head.count as usize {
-        take_one(bytes, r, &mut bay, memory);
+    let n = samples_in(head.degree);
+    let mut sums = zeros;
+    let mut work = zeros;
+    let mut memory = zeros;
+    let mut bay = Bay::open(head.degree, &mut sums[..n]);
+    for r in 0..usize::from(head.count) {
+        take_one(bytes, r, &mut bay, &mut memory[..n]);
     }
-    settle(&mut bay, work)
+    settle(&mut bay, &mut work[..n])
 }

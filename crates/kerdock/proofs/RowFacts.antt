@@ -1,10 +1,8 @@
 -- The rows of the table as the code holds them.
-use Rattle.std.proofs.Common.{◌≡◌, ℕ, zero, suc, ◌+◌, ◌-◌, ◌*◌, ◌%◌, ◌^◌, ◌<◌, ◌≤◌, Bool, true, false, cond, T, eqb, List, [], ◌∷◌, ◌++◌, length, get_or, replicate, sym, refl, ap, ◌∙◌, subst, ap₂, inl, inr, mul-le-mul, pow-suc, arith, eqb→eq, pow_mono}
-use Rattle.std.proofs.lemmas.List.{get_or-take, get_or_append_left}
+use Rattle.std.proofs.Common.{◌≡◌, ℕ, zero, suc, ◌+◌, ◌-◌, ◌*◌, ◌%◌, ◌^◌, ◌<◌, ◌≤◌, Bool, true, false, cond, T, eqb, List, [], ◌∷◌, length, get_or, sym, refl, ap, ◌∙◌, subst, ap₂, inl, inr, mul-le-mul, pow-suc, arith, eqb→eq, pow_mono}
 use Rattle.kerdock.specs.Code.{Row, t, size, period, sum_to}
 use Rattle.kerdock.specs.Table.{find, any, row_of, known, rows, Among}
 use Rattle.kerdock.specs.Sound.{Sound}
-use Rattle.kerdock.specs.Books.{padded, RowIs}
 use Rattle.kerdock.specs.declared.rows.TableRow.{TableRow}
 use Rattle.kerdock.proofs.SoundRows.{table_sound}
 use Rattle.kerdock.proofs.Sums.{sum_same}
@@ -34,27 +32,26 @@ small_product a b ha hb =
     let q : b ≤ 3 = omega arith in
     let r : a * b ≤ 3 * 3 = mul-le-mul p q in r
 
--- the entries of a padded list are the list's
-padded_at : (xs : List ℕ) (k : ℕ) → k < length xs → length xs ≤ 7 → get_or (padded xs) k 0 ≡ get_or xs k 0
-padded_at xs k h l = get_or-take 7 (xs ++ replicate 7 0) k 0 (omega arith) ∙ get_or_append_left xs (replicate 7 0) 0 k h
-
 -- what the code knows of a row that is the table's
 pub record Facts (r : TableRow) : Type 0 where
   pub sound : Sound (row_of r.degree)
   pub deg : (row_of r.degree).degree ≡ r.degree
   pub seven : r.degree ≤ 7
   pub some : 0 < r.degree
-  pub long : size (row_of r.degree) ≡ r.length
+  pub long : r.length ≡ size (row_of r.degree)
   pub fits : r.length ≤ 128
   pub deep : r.degree < r.length
   pub round : period (row_of r.degree) ≡ r.length - 1
-  pub rule : (k : ℕ) → k < r.degree → get_or r.rule k 0 < 4
-  pub first : (k : ℕ) → k < r.degree → get_or r.first k 0 ≡ t (row_of r.degree) k
-  pub next : (xs : List ℕ) (s : ℕ) → ((k : ℕ) → k < r.degree → get_or xs (s + k) 0 ≡ t (row_of r.degree) (s + k)) →
-      sum_to (λ k. get_or r.rule k 0 * get_or xs (s + k) 0) r.degree % 4 ≡ t (row_of r.degree) (s + r.degree)
+  pub firsts : length r.first.now ≡ r.degree
+  pub rules : length r.rule.now ≡ r.degree
+  pub rule : (k : ℕ) → get_or r.rule.now k 0 < 4
+  pub first : (k : ℕ) → k < r.degree → get_or r.first.now k 0 ≡ t (row_of r.degree) k
+  pub next : (xs : List ℕ) (s : ℕ) → ((k : ℕ) → k < r.degree → get_or xs k 0 ≡ t (row_of r.degree) (s + k)) →
+      sum_to (λ k. get_or r.rule.now k 0 * get_or xs k 0) r.degree % 4 ≡ t (row_of r.degree) (s + r.degree)
 
-pub row_facts : (r : TableRow) → RowIs r → Facts r
-row_facts r h =
+pub row_facts : (r : TableRow) → Facts r
+row_facts r =
+    let h = r.of_the_table in
     let row = row_of r.degree in
     let k = known_sound r.degree h.listed in
     let s : Sound row = k.0 in
@@ -63,27 +60,23 @@ row_facts r h =
     let n : r.length ≡ 2 ^ row.degree = h.long in
     let p : 2 ^ row.degree ≤ 2 ^ 7 = pow_mono few in
     let x = power_exceeds row.degree in
-    let rs = s.rules in
-    let bs = s.begins in
     let some = s.some in
-    let rule-at : (k : ℕ) → k < r.degree → get_or r.rule k 0 ≡ get_or row.rule k 0 =
-    λ k b. ap (λ (x : List ℕ). get_or x k 0) h.follows ∙ padded_at row.rule k (omega arith) (omega arith) in
     record {
       sound = s;
       deg = d;
       seven = omega arith;
       some = omega arith;
-      long = sym n;
+      long = h.long;
       fits = omega arith;
       deep = omega arith;
       round = omega arith;
-      rule = λ k b. let e = rule-at k b in let q = s.rule_small k in omega arith;
-      first = λ k b.
-          ap (λ (x : List ℕ). get_or x k 0) h.begins ∙ padded_at row.first k (omega arith) (omega arith)
-          ∙ s.first_is k (omega arith);
+      firsts = ap length h.begins ∙ s.begins ∙ d;
+      rules = ap length h.follows ∙ s.rules ∙ d;
+      rule = λ k. rw h.follows (s.rule_small k);
+      first = λ k b. rw h.begins (s.first_is k (omega arith));
       next = λ xs j a.
-          let same = sum_same (λ k. get_or r.rule k 0 * get_or xs (j + k) 0) (λ k. get_or row.rule k 0 * t row (j + k)) r.degree
-          (λ k b. ap₂ ◌*◌ (rule-at k b) (a k b)) in
+          let same = sum_same (λ k. get_or r.rule.now k 0 * get_or xs k 0) (λ k. get_or row.rule k 0 * t row (j + k)) r.degree
+          (λ k b. ap₂ ◌*◌ (ap (λ (x : List ℕ). get_or x k 0) h.follows) (a k b)) in
           ap (λ (x : ℕ). x % 4) same
           ∙ ap (λ (x : ℕ). sum_to (λ k. get_or row.rule k 0 * t row (j + k)) x % 4) (sym d)
           ∙ sym (s.follows j) ∙ ap (λ (x : ℕ). t row (j + x)) d;

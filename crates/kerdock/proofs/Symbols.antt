@@ -1,15 +1,9 @@
 -- Symbols and digits as the code works them out.
-use Rattle.std.proofs.Common.{◌≡◌, ℕ, zero, suc, ◌+◌, ◌-◌, ◌*◌, ◌/◌, ◌%◌, ◌^◌, ◌<◌, sym, ap, ◌∙◌, pow-suc, div-one, add-one, arith}
-use native.Mathlib.Nat.{div-div-eq-div-mul}
+use Rattle.std.proofs.Common.{◌≡◌, ℕ, zero, suc, ◌+◌, ◌-◌, ◌*◌, ◌%◌, ◌<◌, sym, ap, div-one, arith}
 use Rattle.kerdock.specs.Code.{Row, t, sum_to, digit, symbol}
 
 pub digit_first : (m : ℕ) → m % 4 ≡ digit m 0
 digit_first m = ap (λ (x : ℕ). x % 4) (sym (div-one m))
-
--- the number left once k digits are gone, less one more
-pub digits_gone : (m k : ℕ) → m / 4 ^ k / 4 ≡ m / 4 ^ (k + 1)
-digits_gone m k =
-    div-div-eq-div-mul m (4 ^ k) 4 ∙ ap (λ (x : ℕ). m / x) (sym (pow-suc 4 k) ∙ ap (λ (x : ℕ). 4 ^ x) (sym (add-one k)))
 
 pub symbol_first : (row : Row) (m i : ℕ) → i ≡ 0 → m % 4 ≡ symbol row m i
 unfolding symbol

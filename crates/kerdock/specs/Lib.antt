@@ -2,6 +2,7 @@ pub mod Ring
 pub mod Code
 pub mod Table
 pub mod Sound
+pub mod Rows
 pub mod Books
 pub mod Refusals
 pub mod Words

@@ -1,13 +1,14 @@
 // Code books: the traces and places of one degree, filled into the caller's memory.
-ghost use Rattle.std.specs.Prelude.{◌≡◌, ℕ, suc, ◌+◌, ◌*◌, ◌%◌, ◌<◌, ◌≤◌, T, if◌then◌else◌, Ok, Err, slice_index};
-ghost use Rattle.kerdock.specs.Code.{t, place, period, size, sum_to};
+ghost use Rattle.std.specs.Prelude.{◌≡◌, ℕ, suc, ◌+◌, ◌*◌, ◌%◌, ◌<◌, ◌≤◌, T, if◌then◌else◌, Ok, Err, length, slice_index};
+ghost use Rattle.kerdock.specs.Code.{t, place, period, size};
 ghost use Rattle.kerdock.specs.Table.{row_of, known};
-ghost use Rattle.kerdock.specs.Books.{RowIs, Lawful};
+ghost use Rattle.kerdock.specs.Books.{Lawful};
 
 use crate::refusals::Refusal;
 use crate::rows::{TableRow, row_of};
 
-// A plain record: any values may stand in it, and a lawful one holds a degree's N - 1 traces and N places, then zeros.
+/// A plain record: any values may stand in it, and a lawful one holds a degree's N - 1 traces and N places, then zeros.
+// stays: two arrays as long as the largest degree needs, filled in the caller's place with no heap
 #[derive(Clone, Copy)]
 pub struct CodeBook {
     pub traces: [u8; 127],
@@ -15,7 +16,7 @@ pub struct CodeBook {
 }
 
 impl CodeBook {
-    // A book of zeros, to be filled.
+    /// A book of zeros, to be filled.
     pub fn blank() -> CodeBook
         ensures { (k : ℕ) → (slice_index result.traces k ≡ 0) × (slice_index result.places k ≡ 0) }
     {
@@ -24,104 +25,75 @@ impl CodeBook {
             places: [0; 128],
         }
     }
-}
 
-// The trace that the recurrence gives from those at `start` and after.
-fn next_trace(row: &TableRow, traces: &[u8; 127], start: usize) -> u8
-    requires small { (k : ℕ) → k < row.now.degree → slice_index traces.now (start + k) < 4 }
-    requires rule { (k : ℕ) → k < row.now.degree → slice_index row.now.rule k < 4 }
-    requires room { start + row.now.degree ≤ 127 }
-    requires seven { row.now.degree ≤ 7 }
-    ensures { result ≡ sum_to (λ k. slice_index row.now.rule k * slice_index traces.now (start + k)) row.now.degree % 4 }
-{
-    let mut sum: u8 = 0;
-    for k in 0..row.degree as usize {
-        sum += row.rule[k] * traces[start + k];
+    // Fills the book for a row.
+    pub(crate) fn fill(&mut self, row: &TableRow)
+        ensures { Lawful (row_of row.now.degree) self.new }
+    {
+        row.fill_traces(&mut self.traces);
+        let traces = Traces::new(row, &self.traces);
+        self.places = [0; 128];
+        for (j, place) in self.places[1..row.length].iter_mut().enumerate() {
+            *place = traces.place(j);
+        }
     }
-    sum % 4
 }
 
-fn fill_traces(row: &TableRow, traces: &mut [u8; 127])
-    requires { RowIs row.now }
-    ensures filled { (j : ℕ) → j < period (row_of row.now.degree) → slice_index traces.new j ≡ t (row_of row.now.degree) j }
-    ensures past { (j : ℕ) → period (row_of row.now.degree) ≤ j → slice_index traces.new j ≡ 0 }
-{
-    let degree = row.degree as usize;
-    let period = row.length as usize - 1;
-    *traces = [0; 127];
-    for j in 0..period {
-        traces[j] = if j < degree {
-            row.first[j]
+// The N - 1 traces of a row, which repeat after the last.
+#[derive(Clone, Copy)]
+pub(crate) struct Traces<'a> {
+    row: &'a TableRow,
+    once: &'a [u8],
+    ghost long: { length once.now ≡ period (row_of row.now.degree) },
+    ghost filled: { (k : ℕ) → k < period (row_of row.now.degree) → slice_index once.now k ≡ t (row_of row.now.degree) k },
+}
+
+impl<'a> Traces<'a> {
+    // The traces of a book in which they stand.
+    pub(crate) fn new(row: &'a TableRow, traces: &'a [u8; 127]) -> Traces<'a>
+        requires { (k : ℕ) → k < period (row_of row.now.degree) → slice_index traces.now k ≡ t (row_of row.now.degree) k }
+        ensures { result.row.now ≡ row.now }
+    {
+        Traces {
+            row,
+            once: &traces[..row.length - 1],
+        }
+    }
+
+    // Trace number j, counted round.
+    pub(crate) fn at(&self, j: usize) -> u8
+        requires { j < 2 * period (row_of self.now.row.now.degree) }
+        ensures { result ≡ t (row_of self.now.row.now.degree) j }
+    {
+        let period = self.once.len();
+        if j < period {
+            self.once[j]
         } else {
-            next_trace(row, traces, j - degree)
-        };
+            self.once[j - period]
+        }
+    }
+
+    // The place of index j + 1: bit k is the lowest bit of trace j + k.
+    fn place(&self, j: usize) -> u8
+        requires { j < period (row_of self.now.row.now.degree) }
+        ensures { result ≡ place (row_of self.now.row.now.degree) (suc j) }
+    {
+        let mut place = 0;
+        // stays: the traces are counted round, so there is no slice to go along
+        for k in 0..self.row.degree {
+            place += (self.at(j + k) % 2) << k;
+        }
+        place
     }
 }
 
-// Trace number j, read off the first N - 1 counted round.
-pub(crate) fn trace_at(row: &TableRow, traces: &[u8; 127], j: usize) -> u8
-    requires row { RowIs row.now }
-    requires filled { (k : ℕ) → k < period (row_of row.now.degree) → slice_index traces.now k ≡ t (row_of row.now.degree) k }
-    requires within { j < 2 * period (row_of row.now.degree) }
-    ensures { result ≡ t (row_of row.now.degree) j }
-{
-    let period = row.length as usize - 1;
-    if j < period {
-        traces[j]
-    } else {
-        traces[j - period]
-    }
-}
-
-// The place of index j + 1: bit k is the lowest bit of trace j + k.
-fn place_of(row: &TableRow, traces: &[u8; 127], j: usize) -> u8
-    requires row { RowIs row.now }
-    requires filled { (k : ℕ) → k < period (row_of row.now.degree) → slice_index traces.now k ≡ t (row_of row.now.degree) k }
-    requires within { j < period (row_of row.now.degree) }
-    ensures { result ≡ place (row_of row.now.degree) (suc j) }
-{
-    let mut place: u8 = 0;
-    let mut weight: u8 = 1;
-    for k in 0..row.degree as usize {
-        place += weight * (trace_at(row, traces, j + k) % 2);
-        weight *= 2;
-    }
-    place
-}
-
-fn fill_places(row: &TableRow, traces: &[u8; 127], places: &mut [u8; 128])
-    requires row { RowIs row.now }
-    requires filled { (k : ℕ) → k < period (row_of row.now.degree) → slice_index traces.now k ≡ t (row_of row.now.degree) k }
-    ensures placed { (i : ℕ) → i < size (row_of row.now.degree) → slice_index places.new i ≡ place (row_of row.now.degree) i }
-    ensures past { (i : ℕ) → size (row_of row.now.degree) ≤ i → slice_index places.new i ≡ 0 }
-{
-    let period = row.length as usize - 1;
-    *places = [0; 128];
-    for j in 0..period {
-        places[j + 1] = place_of(row, traces, j);
-    }
-}
-
-// Fills the book of a row that is the table's.
-pub(crate) fn fill_book(row: &TableRow, book: &mut CodeBook)
-    requires { RowIs row.now }
-    ensures { Lawful (row_of row.now.degree) book.new }
-{
-    fill_traces(row, &mut book.traces);
-    fill_places(row, &book.traces, &mut book.places);
-}
-
-// Makes the book of a degree in the caller's place; refused, it leaves the place as it was.
+/// Makes the book of a degree in the caller's place; refused, it leaves the place as it was.
 pub fn make_book(degree: u8, book: &mut CodeBook) -> Result<(), Refusal>
     ensures answer { result ≡ (if known degree then Ok tt else Err Refusal.Degree) }
     ensures made { T (known degree) → Lawful (row_of degree) book.new }
     ensures kept { (T (known degree) → ⊥) → book.new ≡ book.old }
 {
-    match row_of(degree) {
-        Some(row) => {
-            fill_book(&row, book);
-            Ok(())
-        }
-        None => Err(Refusal::Degree),
-    }
+    let row = row_of(degree).ok_or(Refusal::Degree)?;
+    book.fill(&row);
+    Ok(())
 }

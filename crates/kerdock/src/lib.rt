@@ -2,6 +2,7 @@
 #![tactic(auto)]
 
 pub mod books;
+mod code;
 pub mod coding;
 pub mod messages;
 pub mod reading;

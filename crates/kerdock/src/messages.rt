@@ -6,34 +6,34 @@ ghost use Rattle.kerdock.specs.Calls.{adds, WordsAdd};
 use crate::refusals::Refusal;
 use crate::rows::row_of;
 
+// The base-4 digit k of a message.
+pub(crate) fn digit(message: u32, k: usize) -> u8
+    requires { k < 16 }
+    ensures { result ≡ digit message k }
+{
+    ((message >> (2 * k)) % 4) as u8
+}
+
 // The sum of the lowest digits, each modulo 4, without carry.
-fn sum_digits(count: u8, first: u32, second: u32) -> u32
+fn sum_digits(count: usize, first: u32, second: u32) -> u32
     requires { count ≤ 8 }
     ensures { result ≡ sum_to (λ k. 4 ^ k * ((digit first k + digit second k) % 4)) count }
 {
-    let mut sum: u32 = 0;
-    let mut weight: u32 = 1;
-    let mut left = first;
-    let mut right = second;
-    for _ in 0..count {
-        sum += weight * ((left % 4 + right % 4) % 4);
-        weight *= 4;
-        left /= 4;
-        right /= 4;
+    let mut sum = 0;
+    // stays: that the sum fits rests on the digits so far, which a loop keeps and a chain with `sum` does not
+    for k in 0..count {
+        sum += u32::from((digit(first, k) + digit(second, k)) % 4) << (2 * k);
     }
     sum
 }
 
-// The message whose word is the sum of two messages' words.
+/// The message whose word is the sum of two messages' words.
 pub fn add_messages(degree: u8, first: u32, second: u32) -> Result<u32, Refusal>
     ensures answer { result ≡ adds degree first second }
     ensures words_add { WordsAdd degree first second result }
 {
-    let Some(row) = row_of(degree) else {
-        return Err(Refusal::Degree);
-    };
-    let length = row.length as u32;
-    let messages = 4 * length * length;
+    let row = row_of(degree).ok_or(Refusal::Degree)?;
+    let messages = row.messages();
     if first >= messages || second >= messages {
         return Err(Refusal::Message);
     }

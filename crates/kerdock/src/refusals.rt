@@ -21,6 +21,7 @@ pub enum Refusal {
 }
 
 impl Refusal {
+    // stays: a variant holds an index, so `as` does not give the number
     pub fn number(self) -> u8
         ensures { result ≡ number self }
     {

@@ -1,36 +1,78 @@
 // The degree table, as the code reads it.
-ghost use Rattle.kerdock.specs.Books.{RowOf};
+ghost use Rattle.std.specs.Prelude.{◌≡◌, ℕ, ◌*◌, ◌%◌, ◌<◌, ◌≤◌, T, length, MatchOption, slice_index};
+ghost use Rattle.kerdock.specs.Code.{t, period, messages, sum_to};
+ghost use Rattle.kerdock.specs.Table.{row_of, known};
+ghost use Rattle.kerdock.specs.Rows.{RowIs};
 
-// One degree: N, the first traces, and the coefficients of the recurrence, lowest first.
+// One degree: N, the first traces, and the coefficients of the recurrence, lowest first, as many of each as the degree says.
 #[derive(Clone, Copy)]
 pub(crate) struct TableRow {
-    pub(crate) degree: u8,
-    pub(crate) length: u8,
-    pub(crate) first: [u8; 7],
-    pub(crate) rule: [u8; 7],
+    pub(crate) degree: usize,
+    pub(crate) length: usize,
+    pub(crate) first: &'static [u8],
+    pub(crate) rule: &'static [u8],
+    ghost of_the_table: { RowIs degree length first.now rule.now },
 }
 
+impl TableRow {
+    // How many messages the degree has.
+    pub(crate) fn messages(&self) -> u32
+        ensures { result ≡ messages (row_of self.now.degree) }
+    {
+        let length = self.length as u32;
+        4 * length * length
+    }
+
+    // The trace that the recurrence gives from those before it.
+    fn next_trace(&self, before: &[u8]) -> u8
+        requires long { length before.now ≡ self.now.degree }
+        requires small { (k : ℕ) → k < self.now.degree → slice_index before.now k < 4 }
+        ensures { result ≡ sum_to (λ k. slice_index self.now.rule.now k * slice_index before.now k) self.now.degree % 4 }
+    {
+        let mut sum: u8 = 0;
+        for (&rule, &trace) in self.rule.iter().zip(before) {
+            sum += rule * trace;
+        }
+        sum % 4
+    }
+
+    // Fills in the traces, and zeros past them.
+    pub(crate) fn fill_traces(&self, traces: &mut [u8; 127])
+        ensures filled { (j : ℕ) → j < period (row_of self.now.degree) → slice_index traces.new j ≡ t (row_of self.now.degree) j }
+        ensures past { (j : ℕ) → period (row_of self.now.degree) ≤ j → slice_index traces.new j ≡ 0 }
+    {
+        let degree = self.first.len();
+        *traces = [0; 127];
+        traces[..degree].copy_from_slice(self.first);
+        // stays: each trace is worked out from those just before it in the same array, so the loop goes by index
+        for j in degree..self.length - 1 {
+            traces[j] = self.next_trace(&traces[j - degree..j]);
+        }
+    }
+}
+
+#[tactic(auto, unfolding(crate::specs::Table::known, crate::specs::Table::row_of))]
 pub(crate) fn row_of(degree: u8) -> Option<TableRow>
-    ensures { RowOf degree result }
+    ensures { MatchOption result (T (known degree) → ⊥) (λ row. row.degree ≡ degree) }
 {
     match degree {
         3 => Some(TableRow {
             degree: 3,
             length: 8,
-            first: [3, 2, 2, 0, 0, 0, 0],
-            rule: [1, 3, 2, 0, 0, 0, 0],
+            first: &[3, 2, 2],
+            rule: &[1, 3, 2],
         }),
         5 => Some(TableRow {
             degree: 5,
             length: 32,
-            first: [1, 0, 0, 3, 0, 0, 0],
-            rule: [1, 2, 1, 0, 0, 0, 0],
+            first: &[1, 0, 0, 3, 0],
+            rule: &[1, 2, 1, 0, 0],
         }),
         7 => Some(TableRow {
             degree: 7,
             length: 128,
-            first: [3, 0, 0, 2, 0, 0, 2],
-            rule: [1, 3, 0, 0, 2, 0, 0],
+            first: &[3, 0, 0, 2, 0, 0, 2],
+            rule: &[1, 3, 0, 0, 2, 0, 0],
         }),
         _ => None,
     }

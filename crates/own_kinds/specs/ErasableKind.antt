@@ -1,76 +1,86 @@
--- The erasable kind: a sample was erased, or it was heard as a complex sample.
+-- The erasable kind over another kind: a sample was erased, or it was heard.
 --
 -- Glossary
---   Erased, Heard x   the two forms of a sample
+--   m                 what the other kind's calls answer, its meaning and its laws
+--   heard             the sample of the other kind, or none where it was erased
+--   erasable          a sample, from what was heard
+--   meant, both       what an optional sample means, and what two of them add up to
 --   erasable_means    silence where the sample was erased, else what was heard
 --   erasable_zero, erasable_added, erasable_turned, erasable_front   what the calls answer
 --   erasable_laws     the kind's laws
-use Rattle.std.specs.Prelude.{◌≡◌, ℕ, ◌+◌, ◌%◌, ◌<◌, ◌≤◌, ℤ, pos, ◌+ℤ◌, refl}
+use Rattle.std.specs.Prelude.{◌≡◌, ℕ, ◌+◌, ◌%◌, ◌<◌, ◌≤◌, ℤ, pos, ◌+ℤ◌, refl, Option, Some, None}
+use Rattle.std.specs.Option.{option_map, option_map_or}
 use Rattle.std.proofs.Common.{sym, ap, ◌∙◌, arith}
 use Rattle.std.proofs.Math.IntN.{+ℤ_idl, +ℤ_idr}
 use Rattle.samples.specs.Meaning.{Meaning, reads, silence, silence_reads}
 use Rattle.samples.specs.Kind.{KindLaws, limit}
-use Rattle.samples.specs.ComplexKind.{complex_means, complex_added, complex_turned, complex_front}
-use Rattle.samples.specs.ComplexLaws.{complex_laws}
+use Rattle.samples.specs.declared.sample.Sample.{Ghosts}
 use Rattle.own_kinds.specs.declared.erasable.Erasable.{Erasable}
-use Rattle.own_kinds.specs.declared.erasable.Erasable.TheVariants.{Erased, Heard}
 
--- What was erased means silence.
-abbrev pub erasable_means : Erasable → Meaning
-erasable_means Erased = silence
-erasable_means (Heard x) = complex_means x
+-- A sample, from what was heard.
+abbrev erasable : {S : Type 0} → Option S → Erasable S
+erasable o = record { heard = o }
 
 -- An erased sample is the zero of the kind.
-abbrev pub erasable_zero : Erasable
-erasable_zero = Erased
+abbrev pub erasable_zero : {S : Type 0} → Erasable S
+erasable_zero = erasable None
 
--- What was erased adds nothing.
-abbrev pub erasable_added : Erasable → Erasable → Erasable
-erasable_added Erased y = y
-erasable_added (Heard a) Erased = Heard a
-erasable_added (Heard a) (Heard b) = Heard (complex_added a b)
+module _ {S : Type 0} (m : Ghosts S) where
+  -- What was erased means silence.
+  abbrev meant : Option S → Meaning
+  meant o = option_map_or m.means o silence
 
--- What was heard is turned.
-abbrev pub erasable_turned : Erasable → Erasable
-erasable_turned Erased = Erased
-erasable_turned (Heard x) = Heard (complex_turned x)
+  abbrev pub erasable_means : Erasable S → Meaning
+  erasable_means x = meant x.heard
 
--- The reading of symbol 0.
-abbrev pub erasable_front : Erasable → ℤ
-erasable_front Erased = pos 0
-erasable_front (Heard x) = complex_front x
+  -- What was erased adds nothing.
+  abbrev both : Option S → Option S → Option S
+  both None y = y
+  both (Some a) None = Some a
+  both (Some a) (Some b) = Some (m.added a b)
 
--- Each law: for erased samples by the readings of silence, and for heard ones by the law of the complex kind.
-add_reads : (a b : Erasable) (s : ℕ) → s < 4 → (erasable_means a).size + (erasable_means b).size ≤ limit → reads (erasable_means (erasable_added a b)) s ≡ reads (erasable_means a) s +ℤ reads (erasable_means b) s
-add_reads Erased y s l h = sym (ap (λ z. z +ℤ reads (erasable_means y) s) (silence_reads s) ∙ +ℤ_idl (reads (erasable_means y) s))
-add_reads (Heard a) Erased s l h = sym (ap (λ z. reads (complex_means a) s +ℤ z) (silence_reads s) ∙ +ℤ_idr (reads (complex_means a) s))
-add_reads (Heard a) (Heard b) s l h = complex_laws.add_reads a b s l h
+  abbrev pub erasable_added : Erasable S → Erasable S → Erasable S
+  erasable_added x y = erasable (both x.heard y.heard)
 
-add_size : (a b : Erasable) → (erasable_means a).size + (erasable_means b).size ≤ limit → (erasable_means (erasable_added a b)).size ≤ (erasable_means a).size + (erasable_means b).size
-add_size Erased y h = omega arith
-add_size (Heard a) Erased h = omega arith
-add_size (Heard a) (Heard b) h = complex_laws.add_size a b h
+  -- What was heard is turned.
+  abbrev pub erasable_turned : Erasable S → Erasable S
+  erasable_turned x = erasable (option_map m.turned x.heard)
 
-turn_reads : (x : Erasable) (s : ℕ) → s < 4 → (erasable_means x).size ≤ limit → reads (erasable_means (erasable_turned x)) ((s + 1) % 4) ≡ reads (erasable_means x) s
-turn_reads Erased s l h = silence_reads ((s + 1) % 4) ∙ sym (silence_reads s)
-turn_reads (Heard x) s l h = complex_laws.turn_reads x s l h
+  -- The reading of symbol 0.
+  abbrev pub erasable_front : Erasable S → ℤ
+  erasable_front x = option_map_or m.fronted x.heard (pos 0)
 
-turn_size : (x : Erasable) → (erasable_means x).size ≤ limit → (erasable_means (erasable_turned x)).size ≡ (erasable_means x).size
-turn_size Erased h = refl
-turn_size (Heard x) h = complex_laws.turn_size x h
+  -- Each law: for erased samples by the readings of silence, and for heard ones by the law of the other kind.
+  add_reads : (a b : Option S) (s : ℕ) → s < 4 → (meant a).size + (meant b).size ≤ limit → reads (meant (both a b)) s ≡ reads (meant a) s +ℤ reads (meant b) s
+  add_reads None y s l h = sym (ap (λ z. z +ℤ reads (meant y) s) (silence_reads s) ∙ +ℤ_idl (reads (meant y) s))
+  add_reads (Some a) None s l h = sym (ap (λ z. reads (m.means a) s +ℤ z) (silence_reads s) ∙ +ℤ_idr (reads (m.means a) s))
+  add_reads (Some a) (Some b) s l h = m.laws.add_reads a b s l h
 
-front_reads : (x : Erasable) → (erasable_means x).size ≤ limit → erasable_front x ≡ reads (erasable_means x) 0
-front_reads Erased h = refl
-front_reads (Heard x) h = complex_laws.front_reads x h
+  add_size : (a b : Option S) → (meant a).size + (meant b).size ≤ limit → (meant (both a b)).size ≤ (meant a).size + (meant b).size
+  add_size None y h = omega arith
+  add_size (Some a) None h = omega arith
+  add_size (Some a) (Some b) h = m.laws.add_size a b h
 
--- All laws.
-pub erasable_laws : KindLaws erasable_means erasable_zero erasable_added erasable_turned erasable_front
-erasable_laws = record {
-  zero_reads = λ s l. silence_reads s;
-  zero_size = refl;
-  add_reads = add_reads;
-  add_size = add_size;
-  turn_reads = turn_reads;
-  turn_size = turn_size;
-  front_reads = front_reads;
-}
+  turn_reads : (x : Option S) (s : ℕ) → s < 4 → (meant x).size ≤ limit → reads (meant (option_map m.turned x)) ((s + 1) % 4) ≡ reads (meant x) s
+  turn_reads None s l h = silence_reads ((s + 1) % 4) ∙ sym (silence_reads s)
+  turn_reads (Some x) s l h = m.laws.turn_reads x s l h
+
+  turn_size : (x : Option S) → (meant x).size ≤ limit → (meant (option_map m.turned x)).size ≡ (meant x).size
+  turn_size None h = refl
+  turn_size (Some x) h = m.laws.turn_size x h
+
+  front_reads : (x : Option S) → (meant x).size ≤ limit → option_map_or m.fronted x (pos 0) ≡ reads (meant x) 0
+  front_reads None h = refl
+  front_reads (Some x) h = m.laws.front_reads x h
+
+  -- All laws.
+  pub erasable_laws : KindLaws erasable_means erasable_zero erasable_added erasable_turned erasable_front
+  erasable_laws = record {
+    zero_reads = λ s l. silence_reads s;
+    zero_size = refl;
+    add_reads = λ a b. add_reads a.heard b.heard;
+    add_size = λ a b. add_size a.heard b.heard;
+    turn_reads = λ x. turn_reads x.heard;
+    turn_size = λ x. turn_size x.heard;
+    front_reads = λ x. front_reads x.heard;
+  }

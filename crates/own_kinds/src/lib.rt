@@ -5,7 +5,6 @@ mod erasable;
 mod silent;
 
 pub use erasable::Erasable;
-use samples::Sample;
 pub use silent::Silent;
 
 #[cfg(test)]
@@ -21,8 +20,10 @@ mod tests {
         assert!(rt; transform(&mut silent).is_ok());
         assert_eq!(rt; silent[31].front(), 0);
 
-        let mut heard = [Erasable::Erased; 8];
-        heard[3] = Erasable::Heard(Complex { re: 3, im: -5 });
+        let mut heard = [Erasable::zero(); 8];
+        heard[3] = Erasable {
+            heard: Some(Complex { re: 3, im: -5 }),
+        };
         assert!(rt; transform(&mut heard).is_ok());
         assert_eq!(rt; heard[4].front(), 3);
         assert_eq!(rt; heard[1].front(), -3);

@@ -4,7 +4,7 @@ ghost use Rattle.own_kinds.specs.SilentKind.{silent_means, silent_zero, silent_a
 use samples::Sample;
 
 /// A sample of which nothing was heard; the slot says where it was listened for, and no reading depends on it.
-#[derive(Clone, Copy)]
+#[derive(Clone, Copy, PartialEq, Eq, Debug)]
 pub struct Silent {
     pub slot: u8,
 }

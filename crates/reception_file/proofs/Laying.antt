@@ -1,12 +1,21 @@
 -- One part more is written, and what a file is once all are.
-use Rattle.std.proofs.Common.{◌≡◌, ℕ, ◌+◌, ◌*◌, ◌/◌, ◌%◌, ◌<◌, ◌≤◌, ◌≢◌, List, ◌++◌, length, take, drop, set, ℤ, sym, refl, ap, ◌∙◌, subst, arith, below_more}
+use Rattle.std.proofs.Common.{◌≡◌, ℕ, zero, suc, ◌+◌, ◌*◌, ◌/◌, ◌%◌, ◌<◌, ◌≤◌, ◌≢◌, List, [], ◌∷◌, ◌++◌, length, take, drop, set, ℤ, sym, refl, ap, ◌∙◌, subst, suc-add, arith, below_more}
 use Rattle.std.proofs.lemmas.List.{length-set, length-take-le, get_or-set_same, get_or-set_other, get_or-take, take-take, take-set-le, drop-set-lt, drop-drop, length-append, length-drop}
+use borrow.Rule.Slice.PartMut.{put_mid}
 use lib.Seq.{drop-append-add}
 use Rattle.reception_file.specs.Layout.{at, total, place_of, raw, head_bytes, Lays}
 use Rattle.reception_file.specs.Partly.{Laid}
 
 pub none : (part : ℕ → ℤ) (bs : List ℕ) → Laid part 0 bs bs
 none part bs = record { long = refl; high = λ k h. absurd (omega arith); low = λ k h. absurd (omega arith); front = refl; behind = refl }
+
+-- two elements put in the place of two are the two set
+pub put_pair : (p : ℕ) (xs : List ℕ) (a b : ℕ) → p + 1 < length xs → put_mid p 2 xs (a ∷ b ∷ []) ≡ set (set xs p a) (p + 1) b
+put_pair zero [] a b h = absurd (omega arith)
+put_pair zero (x ∷ []) a b h = absurd (omega arith)
+put_pair zero (x ∷ (y ∷ xs)) a b h = refl
+put_pair (suc p) [] a b h = absurd (omega arith)
+put_pair (suc p) (x ∷ xs) a b h = rw suc-add (ap (λ (l : List ℕ). x ∷ l) (put_pair p xs a b (omega arith)))
 
 module _ (part : ℕ → ℤ) (j : ℕ) (before bs after : List ℕ) (v : ℤ) (inside : place_of j + 1 < length bs) (is : v ≡ part j) (wrote : after ≡ set (set bs (place_of j) (raw v / 256)) (place_of j + 1) (raw v % 256)) (sofar : Laid part j before bs) where
   -- the part's own two bytes, and every other byte
@@ -46,6 +55,12 @@ module _ (part : ℕ → ℤ) (j : ℕ) (before bs after : List ℕ) (v : ℤ) (
         front = ap (take 8) wrote ∙ (take-set-le 8 (set bs (place_of j) (raw v / 256)) (place_of j + 1) (raw v % 256) (omega arith) ∙ (take-set-le 8 bs (place_of j) (raw v / 256) (omega arith) ∙ sofar.front));
         behind = subst (λ n. drop n after ≡ drop n before) e behind_more;
       }
+
+-- the same at numbers that are those
+pub one_more_at : (part : ℕ → ℤ) (j n m : ℕ) (before bs after : List ℕ) (v : ℤ) → n ≡ j → m ≡ j + 1 → place_of j + 1 < length bs → v ≡ part j → after ≡ set (set bs (place_of n) (raw v / 256)) (place_of n + 1) (raw v % 256) → Laid part j before bs → Laid part m before after
+one_more_at part j n m before bs after v e f inside is wrote sofar =
+    subst (λ (i : ℕ). Laid part i before after) (sym f)
+    (one_more part j before bs after v inside is (subst (λ (i : ℕ). after ≡ set (set bs (place_of i) (raw v / 256)) (place_of i + 1) (raw v % 256)) e wrote) sofar)
 
 -- With the head before them, all parts are the file; behind it the bytes are as they were.
 module _ (kind degree count parts : ℕ) (is : parts ≡ total kind degree count) (part : ℕ → ℤ) (before headed after : List ℕ) (room : place_of parts ≤ length before) (wrote : headed ≡ head_bytes kind degree count ++ drop 8 before) (laid : Laid part parts headed after) where

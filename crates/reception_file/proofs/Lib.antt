@@ -1,7 +1,8 @@
-pub mod Steps
 pub mod Inside
 pub mod Laying
 pub mod TwoBytes
+pub mod Saying
+pub mod Chunks
 pub mod Accepting
 pub mod Places
 pub mod Returning

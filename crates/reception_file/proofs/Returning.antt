@@ -4,6 +4,8 @@ use lib.Arith.{digits_lt}
 use Rattle.std.proofs.lemmas.List.{ext_get_or}
 use Rattle.samples.specs.declared.sample.Sample.{Ghosts}
 use Rattle.reception_file.specs.Layout.{at, samples_of, total, part_at, Lays}
+use Rattle.std.specs.Prelude.{IsOkAnd}
+use Rattle.reception_file.specs.Head.{Says}
 use Rattle.reception_file.specs.Check.{Accepted, Checked}
 use Rattle.reception_file.specs.Pick.{sample_at, Picked, Unfit, Picks}
 use Rattle.reception_file.specs.Write.{part_of, Due}
@@ -15,9 +17,6 @@ use Rattle.reception_file.specs.declared.stored.Stored.{Ghosts as StoredGhosts}
 use Rattle.reception_file.proofs.Inside.{rows}
 use Rattle.reception_file.proofs.Places.{part_at_sample, sample_in, reception_long}
 use Rattle.reception_file.proofs.Accepting as accepting
-
-abbrev head_of : ℕ → ℕ → ℕ → Head
-head_of k d c = record { kind = k; degree = d; count = c }
 
 module _ {S : Type 0} (m : Ghosts S) (t : StoredGhosts S) (degree count : ℕ) (xs : List S) (due : Due m t degree count xs) (bs : List ℕ) (lays : Lays t.code degree count (part_of m t xs) bs) where
   ok : Accepted bs
@@ -32,11 +31,8 @@ module _ {S : Type 0} (m : Ghosts S) (t : StoredGhosts S) (degree count : ℕ) (
   count_is : at bs 7 ≡ count
   count_is = accepting.count_is t.code degree count (part_of m t xs) bs lays
 
-  checks : (a : Result Head Refusal) → Checked bs a → a ≡ Ok (head_of t.code degree count)
-  checks (Ok h) c =
-      ap (λ k. Ok (head_of k h.degree h.count)) (c.1.0 ∙ kind_is)
-      ∙ (ap (λ d. Ok (head_of t.code d h.count)) (c.1.1 ∙ degree_is)
-      ∙ ap (λ n. Ok (head_of t.code degree n)) (c.1.2 ∙ count_is))
+  checks : (a : Result Head Refusal) → Checked bs a → IsOkAnd a (λ h. Says h t.code degree count)
+  checks (Ok h) c = (c.1.0 ∙ kind_is, c.1.1 ∙ degree_is, c.1.2 ∙ count_is)
   checks (Err e) f = absurd (accepting.never_faulty bs ok e f)
 
   module _ (r : ℕ) (l : r < count) where

@@ -8,6 +8,7 @@
 --   Exact       the file opens with a head, and is as long as that says
 --   Accepted    the file is one: it is exact, and each of its parts is allowed
 --   Loud        of so many parts, the one at a byte place is the first that is not allowed
+--   Quiet       each of so many parts is allowed, or the refusal of the first that is not
 --   Faulty      when the check refuses, case by case, each where those tried before it do not hold
 --   Heads       a head is that of the file
 --   Checked     what the check answers
@@ -15,6 +16,7 @@
 use Rattle.std.specs.Prelude.{◌≡◌, ℕ, ◌<◌, ◌≤◌, ◌⊎◌, List, length, ℤ, Ok, Err, Result, ◌≢◌, unsigned_abs}
 use Rattle.samples.specs.Sizes.{Above}
 use Rattle.reception_file.specs.Layout.{at, GoodKind, GoodDegree, GoodCount, total, size, place_of, part_at, allowed}
+use Rattle.reception_file.specs.Head.{Says}
 use Rattle.reception_file.specs.declared.head.Head.{Head}
 use Rattle.reception_file.specs.declared.refusal.Refusal.{Refusal}
 use Rattle.reception_file.specs.declared.refusal.Refusal.TheVariants.{Memory, Short, Mark, Version, Kind, Degree, Count, Length, Part, Reception, Room}
@@ -49,6 +51,11 @@ Accepted bs = Exact bs × ((j : ℕ) → j < total_at bs → unsigned_abs (part_
 abbrev pub Loud : (ℕ → ℤ) → ℕ → ℕ → Type 0
 Loud part count p = (j : ℕ) × (p ≡ place_of j) × Above (λ k. unsigned_abs (part k)) count allowed j
 
+-- What is answered to the search for a part that is not allowed, of so many parts.
+abbrev pub Quiet : (ℕ → ℤ) → ℕ → Result (Unit {0}) Refusal → Type 0
+Quiet part count (Ok u) = (j : ℕ) → j < count → unsigned_abs (part j) ≤ allowed
+Quiet part count (Err e) = (p : ℕ) × (e ≡ Part p) × Loud part count p
+
 -- A file is refused by the first of these that it fails.
 abbrev pub Faulty : List ℕ → Refusal → Type 0
 Faulty bs (Short n) = (length bs < 8) × (n ≡ length bs)
@@ -65,7 +72,7 @@ Faulty bs Room = ⊥
 
 -- Of a file that is one: its kind, degree and count.
 abbrev pub Heads : List ℕ → Head → Type 0
-Heads bs h = (h.kind ≡ at bs 5) × (h.degree ≡ at bs 6) × (h.count ≡ at bs 7)
+Heads bs h = Says h (at bs 5) (at bs 6) (at bs 7)
 
 abbrev pub Checked : List ℕ → Result Head Refusal → Type 0
 Checked bs (Ok h) = Accepted bs × Heads bs h

@@ -5,9 +5,10 @@
 --   Returned       a file gives back what it was written from
 --   ComesBack      what is written is so returned
 --   WrittenAgain   what is picked whole and written again is the same bytes
-use Rattle.std.specs.Prelude.{◌≡◌, ℕ, ◌*◌, ◌<◌, ◌≤◌, List, length, take, drop, Ok, Err, Result}
+use Rattle.std.specs.Prelude.{◌≡◌, ℕ, ◌*◌, ◌<◌, ◌≤◌, List, length, take, drop, Ok, Err, Result, IsOkAnd}
 use Rattle.samples.specs.declared.sample.Sample.{Ghosts}
 use Rattle.reception_file.specs.Layout.{at, samples_of}
+use Rattle.reception_file.specs.Head.{Says}
 use Rattle.reception_file.specs.Check.{Checked}
 use Rattle.reception_file.specs.Pick.{Picked, Picks}
 use Rattle.reception_file.specs.Write.{Writes}
@@ -23,7 +24,7 @@ module _ {S : Type 0} (m : Ghosts S) (t : StoredGhosts S) where
   -- Whatever the check answers to the file, it is the head; and whatever picking a reception into memory of its length
   -- answers, it is the degree, and the memory then holds the samples that were written.
   pub record Returned (degree count : ℕ) (xs : List S) (file : List ℕ) : Type 0 where
-    pub checks : (a : Result Head Refusal) → Checked file a → a ≡ Ok (record { kind = t.code; degree = degree; count = count })
+    pub checks : (a : Result Head Refusal) → Checked file a → IsOkAnd a (λ h. Says h t.code degree count)
     pub picks : (r : ℕ) (before after : List S) (a : Result ℕ Refusal) → r < count → length before ≡ samples_of degree → Picks m t file r before a after → (a ≡ Ok degree) × (after ≡ reception_of (samples_of degree) r xs)
 
   -- The file is the first bytes, as many as writing answers.

@@ -1,6 +1,11 @@
 pub mod Refusals
 pub mod Layout
+pub mod Numbers
+pub mod Head
+pub mod Pairs
 pub mod Check
+pub mod Props
+pub mod Opening
 pub mod StoredKind
 pub mod ComplexParts
 pub mod PhaseParts

@@ -9,8 +9,10 @@
 use Rattle.std.specs.Prelude.{◌≡◌, ℕ, ◌*◌, ◌/◌, ◌%◌, ◌<◌, ◌≤◌, List, length, take, drop, ℤ, Ok, Err, Result, ◌≢◌, unsigned_abs}
 use Rattle.samples.specs.declared.sample.Sample.{Ghosts}
 use Rattle.reception_file.specs.Layout.{GoodDegree, GoodCount, samples_of, total, size, allowed, Lays}
+use Rattle.reception_file.specs.Head.{Says}
 use Rattle.reception_file.specs.Check.{Loud}
 use Rattle.reception_file.specs.Pick.{sample_at}
+use Rattle.reception_file.specs.declared.head.Head.{Head}
 use Rattle.reception_file.specs.declared.refusal.Refusal.{Refusal}
 use Rattle.reception_file.specs.declared.refusal.Refusal.TheVariants.{Memory, Short, Mark, Version, Kind, Degree, Count, Length, Part, Reception, Room}
 use Rattle.reception_file.specs.declared.stored.Stored.{Ghosts as StoredGhosts}
@@ -54,7 +56,7 @@ module _ {S : Type 0} (m : Ghosts S) (t : StoredGhosts S) where
   Writes degree count xs before (Ok n) after = Written degree count xs before n after
   Writes degree count xs before (Err e) after = Unwritten degree count xs (length before) e × (after ≡ before)
 
-  -- What the samples alone decide: how many parts there are to write, or why none.
-  abbrev pub Weighed : ℕ → ℕ → List S → Result ℕ Refusal → Type 0
-  Weighed degree count xs (Ok n) = Due degree count xs × (n ≡ total t.code degree count)
+  -- What the samples alone decide: the head of the file to write, or why there is none.
+  abbrev pub Weighed : ℕ → ℕ → List S → Result Head Refusal → Type 0
+  Weighed degree count xs (Ok h) = Due degree count xs × Says h t.code degree count
   Weighed degree count xs (Err e) = (room : ℕ) → Unwritten degree count xs room e

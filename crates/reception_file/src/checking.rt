@@ -1,8 +1,11 @@
 //! The check of a whole file.
 ghost use Rattle.reception_file.specs.Check.{Measured, Checked};
+ghost use Rattle.reception_file.specs.Opening.{Opens};
 
+use crate::checked_file::CheckedFile;
 use crate::head::Head;
-use crate::parts::{first_loud, total_parts};
+use crate::kind::Kind;
+use crate::parts::{check_parts, parts_of};
 use crate::refusal::Refusal;
 
 /// The head of a file that is exactly as long as its head says. The arms stand in the order of the refusals, the last first.
@@ -10,27 +13,12 @@ fn measure(bytes: &[u8]) -> Result<Head, Refusal>
     ensures { Measured bytes.now result }
 {
     match bytes {
-        [
-            0x4B,
-            0x57,
-            0x52,
-            0,
-            1,
-            kind @ (1 | 2),
-            degree @ (3 | 5 | 7),
-            count @ 1..=16,
-            rest @ ..,
-        ] if rest.len() == 2 * total_parts(*kind, *degree, *count) => {
-            Ok(Head {
-                kind: *kind,
-                degree: *degree,
-                count: *count,
-            })
+        [0x4B, 0x57, 0x52, 0, 1, kind, degree, count, rest @ ..] => {
+            match Head::new(Kind::try_from(*kind)?, *degree, *count)? {
+                head if rest.len() == 2 * head.parts() => Ok(head),
+                _ => Err(Refusal::Length(bytes.len())),
+            }
         }
-        [0x4B, 0x57, 0x52, 0, 1, 1 | 2, 3 | 5 | 7, 1..=16, ..] => Err(Refusal::Length(bytes.len())),
-        [0x4B, 0x57, 0x52, 0, 1, 1 | 2, 3 | 5 | 7, _, ..] => Err(Refusal::Count),
-        [0x4B, 0x57, 0x52, 0, 1, 1 | 2, _, _, ..] => Err(Refusal::Degree),
-        [0x4B, 0x57, 0x52, 0, 1, _, _, _, ..] => Err(Refusal::Kind),
         [0x4B, 0x57, 0x52, _, _, _, _, _, ..] => Err(Refusal::Version),
         [0x4B, 0x57, _, _, _, _, _, _, ..] => Err(Refusal::Mark(2)),
         [0x4B, _, _, _, _, _, _, _, ..] => Err(Refusal::Mark(1)),
@@ -39,14 +27,20 @@ fn measure(bytes: &[u8]) -> Result<Head, Refusal>
     }
 }
 
+impl<'a> CheckedFile<'a> {
+    /// The file that the bytes are, if they are one.
+    pub fn open(bytes: &'a [u8]) -> Result<CheckedFile<'a>, Refusal>
+        ensures { Opens bytes.now result }
+    {
+        let head = measure(bytes)?;
+        check_parts(parts_of(bytes))?;
+        Ok(CheckedFile { bytes, head })
+    }
+}
+
 /// The head of a file, if the bytes are one.
 pub fn check(bytes: &[u8]) -> Result<Head, Refusal>
     ensures { Checked bytes.now result }
 {
-    let head = measure(bytes)?;
-    let total = total_parts(head.kind, head.degree, head.count);
-    match first_loud(bytes, total) {
-        Some(j) => Err(Refusal::Part(8 + 2 * j)),
-        None => Ok(head),
-    }
+    Ok(CheckedFile::open(bytes)?.head)
 }

@@ -2,6 +2,7 @@
 ghost use Rattle.reception_file.specs.ComplexParts.{complex_part, complex_put, complex_stored, complex_read, complex_bounded};
 ghost use Rattle.reception_file.specs.PhaseParts.{phase_part, phase_put, phase_stored, phase_read, phase_bounded};
 
+use crate::kind::Kind;
 use crate::stored::Stored;
 use samples::{Complex, Phase};
 
@@ -20,12 +21,8 @@ impl Stored for Complex {
 
     ghost bounded = { complex_bounded };
 
-    fn kind() -> u8 {
-        1u8
-    }
-
-    fn parts() -> usize {
-        2usize
+    fn kind() -> Kind {
+        Kind::Complex
     }
 
     fn part_of(self, number: usize) -> i32 {
@@ -35,12 +32,12 @@ impl Stored for Complex {
         }
     }
 
-    fn with_part(self, number: usize, value: i32) -> Complex {
-        let Complex { re, im } = self;
+    fn with_part(mut self, number: usize, value: i32) -> Complex {
         match number {
-            0 => Complex { re: value, im },
-            _ => Complex { re, im: value },
+            0 => self.re = value,
+            _ => self.im = value,
         }
+        self
     }
 }
 
@@ -59,12 +56,8 @@ impl Stored for Phase {
 
     ghost bounded = { phase_bounded };
 
-    fn kind() -> u8 {
-        2u8
-    }
-
-    fn parts() -> usize {
-        4usize
+    fn kind() -> Kind {
+        Kind::Phase
     }
 
     fn part_of(self, number: usize) -> i32 {
@@ -76,33 +69,13 @@ impl Stored for Phase {
         }
     }
 
-    fn with_part(self, number: usize, value: i32) -> Phase {
-        let Phase { at0, at1, at2, at3 } = self;
+    fn with_part(mut self, number: usize, value: i32) -> Phase {
         match number {
-            0 => Phase {
-                at0: value,
-                at1,
-                at2,
-                at3,
-            },
-            1 => Phase {
-                at0,
-                at1: value,
-                at2,
-                at3,
-            },
-            2 => Phase {
-                at0,
-                at1,
-                at2: value,
-                at3,
-            },
-            _ => Phase {
-                at0,
-                at1,
-                at2,
-                at3: value,
-            },
+            0 => self.at0 = value,
+            1 => self.at1 = value,
+            2 => self.at2 = value,
+            _ => self.at3 = value,
         }
+        self
     }
 }

@@ -1,57 +1,36 @@
-//! Parts: how many a file has, and the two bytes of each.
-ghost use Rattle.std.specs.Prelude.{◌≡◌, ℕ, ◌+◌, ◌*◌, ◌<◌, ◌≤◌, length, MatchOption, unsigned_abs};
-ghost use Rattle.samples.specs.Sizes.{Above};
-ghost use Rattle.reception_file.specs.Layout.{at, signed, samples_of, parts_of, total, size, place_of, part_at, allowed, GoodKind, GoodDegree, GoodCount};
+//! Parts, each of two bytes.
+ghost use Rattle.std.specs.Prelude.{◌≡◌, ◌-◌, ◌/◌, ◌^◌, ◌<◌, ◌≤◌, length};
+ghost use Rattle.reception_file.specs.Check.{Quiet};
+ghost use Rattle.reception_file.specs.Pairs.{pair_part, part_in, PairsOf};
 
-/// How many samples a reception of this degree has.
-pub(crate) fn samples_in(degree: u8) -> usize
-    requires { GoodDegree degree }
-    ensures { result ≡ samples_of degree }
+use crate::refusal::Refusal;
+
+/// The largest absolute value of a part.
+pub(crate) const LARGEST: u32 = 32767;
+
+/// The part that two bytes stand for, the high one first.
+pub(crate) fn part_from(bytes: [u8; 2]) -> i32
+    ensures { result ≡ pair_part bytes }
 {
-    match degree {
-        3 => 8,
-        5 => 32,
-        7 => 128,
-        _ => unreachable(),
-    }
+    i32::from(i16::from_be_bytes(bytes))
 }
 
-/// How many parts a sample of this kind has.
-fn parts_in(kind: u8) -> usize
-    ensures { result ≡ parts_of kind }
+/// The parts of a file, behind the first eight bytes.
+pub(crate) fn parts_of(bytes: &[u8]) -> &[[u8; 2]]
+    requires { 8 ≤ length bytes.now }
+    ensures parts { PairsOf bytes.now result.now }
+    ensures many { length result.now ≡ (length bytes.now - 8) / 2 }
 {
-    if kind == 1 { 2 } else { 4 }
+    bytes[8..].as_chunks().0
 }
 
-/// How many parts a file with this head has.
-pub(crate) fn total_parts(kind: u8, degree: u8, count: u8) -> usize
-    requires degree { GoodDegree degree }
-    requires count { GoodCount count }
-    ensures is { result ≡ total kind degree count }
-    ensures bound { result ≤ 8192 }
+/// Refuses the first part that is not allowed.
+pub(crate) fn check_parts(parts: &[[u8; 2]]) -> Result<(), Refusal>
+    requires { length parts.now < 2 ^ 32 }
+    ensures { Quiet (part_in parts.now) (length parts.now) result }
 {
-    count as usize * samples_in(degree) * parts_in(kind)
-}
-
-/// The part of a number in a file.
-pub(crate) fn part_at(bytes: &[u8], number: usize) -> i32
-    requires { place_of number + 1 < length bytes.now }
-    ensures { result ≡ part_at bytes.now number }
-{
-    let place = 8 + 2 * number;
-    let raw = bytes[place] as i32 * 256 + bytes[place + 1] as i32;
-    if raw < 32768 { raw } else { raw - 65536 }
-}
-
-/// The number of the first part of a file that is not allowed. No part is above 32,767.
-pub(crate) fn first_loud(bytes: &[u8], total: usize) -> Option<usize>
-    requires { length bytes.now ≡ 8 + 2 * total }
-    ensures { MatchOption result ((j : ℕ) → j < total → unsigned_abs (part_at bytes.now j) ≤ allowed) (λ j. Above (λ k. unsigned_abs (part_at bytes.now k)) total allowed j) }
-{
-    for j in 0..total {
-        if part_at(bytes, j) < -32767 {
-            return Some(j);
-        }
-    }
-    None
+    let loud = parts
+        .iter()
+        .position(|part| part_from(*part).unsigned_abs() > LARGEST);
+    loud.map_or(Ok(()), |j| Err(Refusal::Part(8 + 2 * j)))
 }

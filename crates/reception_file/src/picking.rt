@@ -1,33 +1,57 @@
 //! One reception out of a file.
 ghost use Rattle.std.specs.Prelude.{◌≡◌, ℕ, ◌+◌, ◌*◌, ◌<◌, ◌≤◌, length};
-ghost use Rattle.reception_file.specs.Layout.{part_at, place_of};
-ghost use Rattle.reception_file.specs.Pick.{Holds, Picks};
+ghost use Rattle.reception_file.specs.Pairs.{part_in};
+ghost use Rattle.reception_file.specs.Pick.{Reads, PicksFrom, Picks};
 ghost use Rattle.reception_file.specs.Laws.{WrittenAgain};
 
-use crate::checking::check;
-use crate::parts::{part_at, samples_in};
+use crate::checked_file::CheckedFile;
+use crate::parts::{part_from, parts_of};
 use crate::refusal::Refusal;
 use crate::stored::Stored;
 
-/// The sample whose first part is the part of a number.
-fn sample_from<S: Stored>(bytes: &[u8], first: usize) -> S
-    requires { place_of (first + S.Stored.width) ≤ length bytes.now }
-    ensures { (k : ℕ) → k < S.Stored.width → S.Stored.part result k ≡ part_at bytes.now (first + k) }
+/// The sample of these parts.
+fn sample_from<S: Stored>(parts: &[[u8; 2]]) -> S
+    requires { length parts.now ≡ S.Stored.width }
+    ensures { (k : ℕ) → k < S.Stored.width → S.Stored.part result k ≡ part_in parts.now k }
 {
     let mut sample = S::zero();
-    for k in 0..S::parts() {
-        sample = sample.with_part(k, part_at(bytes, first + k));
+    for (k, part) in parts.iter().enumerate() {
+        sample = sample.with_part(k, part_from(*part));
     }
     sample
 }
 
-/// Fills the memory with the samples of a file from the sample of a number on.
-fn read_samples<S: Stored>(bytes: &[u8], first: usize, memory: &mut [S])
-    requires { place_of ((first + length memory.old) * S.Stored.width) ≤ length bytes.now }
-    ensures { Holds S.Sample S.Stored.own bytes.now first memory.new }
+/// Fills the memory with the samples of these parts.
+fn read_samples<S: Stored>(parts: &[[u8; 2]], memory: &mut [S])
+    requires { length parts.now ≡ length memory.old * S.Stored.width }
+    ensures { Reads S.Sample S.Stored.own parts.now memory.new }
 {
-    for i in 0..memory.len() {
-        memory[i] = sample_from(bytes, (first + i) * S::parts());
+    for (i, sample) in memory.iter_mut().enumerate() {
+        let first = i * S::parts();
+        *sample = sample_from(&parts[first..first + S::parts()]);
+    }
+}
+
+impl CheckedFile<'_> {
+    /// Leaves one reception of the file in the memory. Receptions are numbered from 0.
+    pub fn pick<S: Stored>(self, reception: usize, memory: &mut [S]) -> Result<(), Refusal>
+        ensures { PicksFrom S.Sample S.Stored.own self.entry.bytes.now reception memory.old result memory.new }
+    {
+        let head = self.head;
+        if head.kind != S::kind() {
+            return Err(Refusal::Kind);
+        }
+        if reception >= usize::from(head.count) {
+            return Err(Refusal::Reception);
+        }
+        let samples = head.samples();
+        if memory.len() != samples {
+            return Err(Refusal::Memory);
+        }
+        let long = samples * S::parts();
+        let first = reception * long;
+        read_samples(&parts_of(self.bytes)[first..first + long], memory);
+        Ok(())
     }
 }
 
@@ -36,17 +60,7 @@ pub fn pick<S: Stored>(bytes: &[u8], reception: usize, memory: &mut [S]) -> Resu
     ensures picks { Picks S.Sample S.Stored.own bytes.now reception memory.old result memory.new }
     ensures written_again { WrittenAgain S.Sample S.Stored.own bytes.now result }
 {
-    let head = check(bytes)?;
-    if head.kind != S::kind() {
-        return Err(Refusal::Kind);
-    }
-    if reception >= head.count as usize {
-        return Err(Refusal::Reception);
-    }
-    let samples = samples_in(head.degree);
-    if memory.len() != samples {
-        return Err(Refusal::Memory);
-    }
-    read_samples(bytes, reception * samples, memory);
-    Ok(head.degree)
+    let file = CheckedFile::open(bytes)?;
+    file.pick(reception, memory)?;
+    Ok(u8::from(file.head.degree))
 }

@@ -1,8 +1,10 @@
 //! What a kind of samples adds so that a file can hold it.
 ghost use Rattle.std.specs.Prelude.{◌≡◌, ℕ, ◌<◌, ◌≤◌, ℤ, unsigned_abs};
 ghost use Rattle.samples.specs.Meaning.{reads};
+ghost use Rattle.reception_file.specs.Numbers.{kind_number};
 ghost use Rattle.reception_file.specs.StoredKind.{StoredLaws};
 
+use crate::kind::Kind;
 use samples::Sample;
 
 /// A kind of samples that a file can hold: each sample is so many parts.
@@ -17,13 +19,16 @@ pub trait Stored: Sample {
 
     ghost laws: { StoredLaws code width part put };
 
-    /// The kind's number in a file.
-    fn kind() -> u8
-        ensures { result ≡ code };
+    /// The kind that the head of a file names.
+    fn kind() -> Kind
+        ensures { kind_number result ≡ code };
 
     /// How many parts a sample has.
     fn parts() -> usize
-        ensures { result ≡ width };
+        ensures { result ≡ width }
+    {
+        Self::kind().parts()
+    }
 
     /// The part of a number, from 0; of a number that is too large, the last part.
     fn part_of(self, number: usize) -> i32

@@ -1,63 +1,42 @@
 //! Receptions as the bytes of a file.
-ghost use Rattle.std.specs.Prelude.{◌≡◌, ℕ, ◌+◌, ◌*◌, ◌/◌, ◌%◌, ◌<◌, ◌≤◌, ◌++◌, length, drop, MatchOption, slice_set, unsigned_abs};
-ghost use Rattle.samples.specs.Sizes.{Above};
+ghost use Rattle.std.specs.Prelude.{◌≡◌, ℕ, ◌+◌, ◌*◌, ◌/◌, ◌%◌, ◌^◌, ◌<◌, ◌≤◌, ◌++◌, length, drop, MatchOption, slice_set, unsigned_abs};
 ghost use Rattle.reception_file.specs.Layout.{place_of, raw, allowed, head_bytes};
+ghost use Rattle.reception_file.specs.Check.{Quiet};
 ghost use Rattle.reception_file.specs.Write.{part_of, Weighed, Writes};
 ghost use Rattle.reception_file.specs.Laws.{ComesBack};
 ghost use Rattle.reception_file.specs.Partly.{Laid};
 
-use crate::parts::{samples_in, total_parts};
+use crate::head::Head;
+use crate::parts::LARGEST;
 use crate::refusal::Refusal;
 use crate::stored::Stored;
 
-/// The part of a number, over all parts of the samples.
-fn part_of<S: Stored>(samples: &[S], number: usize) -> i32
-    requires { number < length samples.now * S.Stored.width }
-    ensures { result ≡ part_of S.Sample S.Stored.own samples.now number }
+/// Refuses the first part of the samples that is not allowed.
+fn check_samples<S: Stored>(samples: &[S]) -> Result<(), Refusal>
+    requires { length samples.now * S.Stored.width < 2 ^ 32 }
+    ensures { Quiet (part_of S.Sample S.Stored.own samples.now) (length samples.now * S.Stored.width) result }
 {
     let parts = S::parts();
-    samples[number / parts].part_of(number % parts)
-}
-
-/// The number of the first part of the samples that is not allowed.
-fn first_outside<S: Stored>(samples: &[S], total: usize) -> Option<usize>
-    requires { total ≡ length samples.now * S.Stored.width }
-    ensures { MatchOption result ((j : ℕ) → j < total → unsigned_abs (part_of S.Sample S.Stored.own samples.now j) ≤ allowed) (λ j. Above (λ k. unsigned_abs (part_of S.Sample S.Stored.own samples.now k)) total allowed j) }
-{
-    for j in 0..total {
-        if part_of(samples, j).unsigned_abs() > 32767 {
-            return Some(j);
+    for (i, sample) in samples.iter().enumerate() {
+        for k in 0..parts {
+            if sample.part_of(k).unsigned_abs() > LARGEST {
+                return Err(Refusal::Part(8 + 2 * (i * parts + k)));
+            }
         }
     }
-    None
+    Ok(())
 }
 
-/// How many parts there are to write.
-fn weigh<S: Stored>(degree: u8, count: u8, samples: &[S]) -> Result<usize, Refusal>
+/// The head of the file to write.
+fn weigh<S: Stored>(degree: u8, count: u8, samples: &[S]) -> Result<Head, Refusal>
     ensures { Weighed S.Sample S.Stored.own degree count samples.now result }
 {
-    match (degree, count) {
-        (3 | 5 | 7, 1..=16) => {
-            if samples.len() != count as usize * samples_in(degree) {
-                return Err(Refusal::Memory);
-            }
-            let total = total_parts(S::kind(), degree, count);
-            match first_outside(samples, total) {
-                Some(j) => Err(Refusal::Part(8 + 2 * j)),
-                None => Ok(total),
-            }
-        }
-        (3 | 5 | 7, _) => Err(Refusal::Count),
-        _ => Err(Refusal::Degree),
+    let head = Head::new(S::kind(), degree, count)?;
+    if samples.len() != usize::from(count) * head.samples() {
+        return Err(Refusal::Memory);
     }
-}
-
-/// Writes the first eight bytes.
-fn write_head(kind: u8, degree: u8, count: u8, bytes: &mut [u8])
-    requires { 8 ≤ length bytes.old }
-    ensures { bytes.new ≡ head_bytes kind degree count ++ drop 8 bytes.old }
-{
-    bytes[0..8].copy_from_slice(&[0x4B, 0x57, 0x52, 0, 1, kind, degree, count]);
+    check_samples(samples)?;
+    Ok(head)
 }
 
 /// Writes the two bytes of a part, the high one first.
@@ -67,24 +46,20 @@ fn write_part(number: usize, part: i32, bytes: &mut [u8])
     ensures { bytes.new ≡ slice_set (slice_set bytes.old (place_of number) (raw part / 256)) (place_of number + 1) (raw part % 256) }
 {
     let place = 8 + 2 * number;
-    let raw = if part < 0 {
-        (part + 65536) as u32
-    } else {
-        part as u32
-    };
-    bytes[place] = (raw / 256) as u8;
-    bytes[place + 1] = (raw % 256) as u8;
+    bytes[place..place + 2].copy_from_slice(&(part as i16).to_be_bytes());
 }
 
 /// Writes all parts behind the head.
-fn write_parts<S: Stored>(samples: &[S], total: usize, bytes: &mut [u8])
-    requires many { total ≡ length samples.now * S.Stored.width }
-    requires within { (j : ℕ) → j < total → unsigned_abs (part_of S.Sample S.Stored.own samples.now j) ≤ allowed }
-    requires room { place_of total ≤ length bytes.old }
-    ensures { Laid (part_of S.Sample S.Stored.own samples.now) total bytes.old bytes.new }
+fn write_parts<S: Stored>(samples: &[S], bytes: &mut [u8])
+    requires within { (j : ℕ) → j < length samples.now * S.Stored.width → unsigned_abs (part_of S.Sample S.Stored.own samples.now j) ≤ allowed }
+    requires room { place_of (length samples.now * S.Stored.width) ≤ length bytes.old }
+    ensures { Laid (part_of S.Sample S.Stored.own samples.now) (length samples.now * S.Stored.width) bytes.old bytes.new }
 {
-    for j in 0..total {
-        write_part(j, part_of(samples, j), bytes);
+    let parts = S::parts();
+    for (i, sample) in samples.iter().enumerate() {
+        for k in 0..parts {
+            write_part(i * parts + k, sample.part_of(k), bytes);
+        }
     }
 }
 
@@ -98,12 +73,12 @@ pub fn write<S: Stored>(
     ensures writes { Writes S.Sample S.Stored.own degree count samples.now bytes.old result bytes.new }
     ensures comes_back { ComesBack S.Sample S.Stored.own degree count samples.now bytes.new result }
 {
-    let total = weigh(degree, count, samples)?;
-    let size = 8 + 2 * total;
+    let head = weigh(degree, count, samples)?;
+    let size = head.size();
     if bytes.len() < size {
         return Err(Refusal::Room);
     }
-    write_head(S::kind(), degree, count, bytes);
-    write_parts(samples, total, bytes);
+    bytes[..8].copy_from_slice(&head.to_bytes());
+    write_parts(samples, bytes);
     Ok(size)
 }

@@ -2,6 +2,8 @@
 // each word is damaged at one index and must be refused, and a report is printed.
 #![tactic(auto)]
 
+ghost use Rattle.std.specs.Prelude.{◌+◌, ◌<◌};
+
 use kerdock::books::{CodeBook, make_book};
 use kerdock::coding::encode;
 use kerdock::messages::add_messages;
@@ -9,76 +11,74 @@ use kerdock::reading::read_back;
 use kerdock::refusals::Refusal;
 
 // What came of a run over many messages.
-#[derive(Clone, Copy)]
+#[derive(Clone, Copy, Default)]
 struct Tally {
-    encoded: u32,
-    read_back: u32,
-    refused: u32,
+    encoded: u64,
+    read_back: u64,
+    refused: u64,
 }
 
-// One message: encoded, read back, then damaged at one index and read back again.
-fn carry(degree: u8, message: u32, word: &mut [u8], tally: Tally) -> Tally {
-    let mut now = tally;
-    if encode(degree, message, word).is_err() {
-        return now;
-    }
-    now.encoded = now.encoded.saturating_add(1);
-    if let Ok(back) = read_back(degree, word) {
-        if back == message {
-            now.read_back = now.read_back.saturating_add(1);
+impl Tally {
+    ghost use Rattle.roundtrip.specs.Tallies.{IsAtMost};
+
+    // One message: encoded, read back, then damaged at one index and read back again.
+    fn carry(&mut self, degree: u8, message: u32, word: &mut [u8])
+        requires { IsAtMost message self.old }
+        ensures { IsAtMost (message + 1) self.new }
+    {
+        if encode(degree, message, word).is_err() {
+            return;
+        }
+        self.encoded += 1;
+        if read_back(degree, word) == Ok(message) {
+            self.read_back += 1;
+        }
+        if word.is_empty() {
+            return;
+        }
+        let index = message as usize % word.len();
+        word[index] = (word[index] & 3) ^ 1;
+        if read_back(degree, word) == Err(Refusal::NoWord) {
+            self.refused += 1;
         }
     }
-    if word.is_empty() {
-        return now;
-    }
-    let index = message as usize % word.len();
-    word[index] = (word[index] & 3) ^ 1;
-    if let Err(Refusal::NoWord) = read_back(degree, word) {
-        now.refused = now.refused.saturating_add(1);
-    }
-    now
 }
 
 // Every message of a degree from 0 on, `step` apart.
-fn sweep(degree: u8, messages: u32, step: u32, word: &mut [u8]) -> Tally {
-    let mut tally = Tally {
-        encoded: 0,
-        read_back: 0,
-        refused: 0,
-    };
-    for message in 0..messages {
-        if message.checked_rem(step) == Some(0) {
-            tally = carry(degree, message, word, tally);
-        }
+fn sweep(degree: u8, messages: u32, step: usize, word: &mut [u8]) -> Tally
+    requires { 0 < step }
+{
+    let mut tally = Tally::default();
+    for message in (0..messages).step_by(step) {
+        tally.carry(degree, message, word);
     }
     tally
 }
 
 fn report_sweep(rt: &HostRuntime, degree: u8, tally: Tally) -> anyhow::Result<()> {
-    let encoded = tally.encoded;
-    let back = tally.read_back;
-    let refused = tally.refused;
+    let Tally {
+        encoded,
+        read_back,
+        refused,
+    } = tally;
     println!(rt;
-        "degree {degree}: {encoded} messages encoded, {back} read back, {refused} damaged words refused"
+        "degree {degree}: {encoded} messages encoded, {read_back} read back, {refused} damaged words refused"
     )?;
     Ok(())
 }
 
 fn report_sweeps(rt: &HostRuntime) -> anyhow::Result<()> {
-    let mut short = [0u8; 8];
-    report_sweep(rt, 3, sweep(3, 256, 1, &mut short))?;
-    let mut middle = [0u8; 32];
-    report_sweep(rt, 5, sweep(5, 4096, 1, &mut middle))?;
-    let mut long = [0u8; 128];
-    report_sweep(rt, 7, sweep(7, 65536, 7, &mut long))
+    report_sweep(rt, 3, sweep(3, 256, 1, &mut [0; 8]))?;
+    report_sweep(rt, 5, sweep(5, 4096, 1, &mut [0; 32]))?;
+    report_sweep(rt, 7, sweep(7, 65536, 7, &mut [0; 128]))
 }
 
 fn report_book(rt: &HostRuntime) -> anyhow::Result<()> {
     let mut book = CodeBook::blank();
     match make_book(3, &mut book) {
         Ok(()) => {
-            let traces = &book.traces[0..7];
-            let places = &book.places[0..8];
+            let traces = &book.traces[..7];
+            let places = &book.places[..8];
             println!(rt; "degree 3: traces {traces:?}, places {places:?}")?;
         }
         Err(refusal) => println!(rt; "degree 3: {refusal}")?,
@@ -137,26 +137,33 @@ mod tests {
     #[test]
     fn last_message_is_encoded_and_the_next_refused(rt: HostRuntime) {
         let mut word = [0u8; 8];
-        assert!(rt; encode(3, 255, &mut word).is_ok());
-        assert!(rt; read_back(3, &word) == Ok(255));
-        assert!(rt; encode(3, 256, &mut word) == Err(Refusal::Message));
-        assert!(rt;
-            read_back(3, &word) == Ok(255),
+        assert_eq!(rt; encode(3, 255, &mut word), Ok(()));
+        assert_eq!(rt; read_back(3, &word), Ok(255));
+        assert_eq!(rt; encode(3, 256, &mut word), Err(Refusal::Message));
+        assert_eq!(rt;
+            read_back(3, &word),
+            Ok(255),
             "a refused call writes nothing"
         );
     }
 
     #[test]
     fn a_word_modulo_2_is_no_word(rt: HostRuntime) {
-        assert!(rt; read_back(3, &[0, 1, 0, 0, 1, 0, 1, 1]) == Err(Refusal::NoWord));
-        assert!(rt; read_back(3, &[0, 1, 0, 0, 4, 0, 9, 1]) == Err(Refusal::Symbol(4)));
+        assert_eq!(rt;
+            read_back(3, &[0, 1, 0, 0, 1, 0, 1, 1]),
+            Err(Refusal::NoWord)
+        );
+        assert_eq!(rt;
+            read_back(3, &[0, 1, 0, 0, 4, 0, 9, 1]),
+            Err(Refusal::Symbol(4))
+        );
     }
 
     #[test]
     fn refusals_come_in_their_order(rt: HostRuntime) {
         let mut word = [0u8; 9];
-        assert!(rt; encode(4, 256, &mut word) == Err(Refusal::Degree));
-        assert!(rt; encode(3, 256, &mut word) == Err(Refusal::Message));
-        assert!(rt; encode(3, 255, &mut word) == Err(Refusal::Memory));
+        assert_eq!(rt; encode(4, 256, &mut word), Err(Refusal::Degree));
+        assert_eq!(rt; encode(3, 256, &mut word), Err(Refusal::Message));
+        assert_eq!(rt; encode(3, 255, &mut word), Err(Refusal::Memory));
     }
 }

@@ -1,5 +1,5 @@
 -- One block more crossed, for any kind.
-use Rattle.std.proofs.Common.{◌≡◌, ℕ, ◌+◌, ◌-◌, ◌*◌, ◌%◌, ◌<◌, ◌≤◌, ltb, ◌⊎◌, List, sym, refl, ap, ◌∙◌, subst, inl, inr, add-mul, mul-le-mul, one-mul, zero-mul, arith, le-ltb, lt-ltb}
+use Rattle.std.proofs.Common.{◌≡◌, ℕ, ◌+◌, ◌-◌, ◌*◌, ◌%◌, ◌<◌, ◌≤◌, ltb, ◌⊎◌, List, sym, ap, ◌∙◌, subst, inl, inr, add-mul, mul-le-mul, one-mul, arith, le-ltb, lt-ltb}
 use lib.Arith.{digits_mod}
 use Rattle.std.proofs.lemmas.Bool.{cases_lt}
 use Rattle.samples.specs.declared.sample.Sample.{Ghosts}
@@ -34,9 +34,6 @@ module _ {S : Type 0} (m : Ghosts S) (h : ℕ) where
       let e : ltb ((n * (h + h) + r + h) % (h + h)) h ≡ ltb (r + h) h = ap (λ x. ltb (x % (h + h)) h) q ∙ ap (λ x. ltb x h) (digits_mod n inside) in
       let back : n * (h + h) + r + h - h ≡ n * (h + h) + r = omega arith in
       rw (e ∙ le-ltb (r + h) h (omega arith), back)
-
-  pub none : (old : List S) → Crossing m h 0 old old
-  none old = record { done = λ v l. let e = zero-mul (h + h) in absurd (omega arith); beyond = λ v l. refl }
 
   module _ (n : ℕ) (old w new : List S) (so_far : Crossing m h n old w) (halves : Halves m h (n * (h + h)) w new) where
     low_here : (r : ℕ) → r < h → at m new (n * (h + h) + r) ≡ crossed m h (at m old) (n * (h + h) + r)

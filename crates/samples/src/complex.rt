@@ -20,22 +20,16 @@ impl Complex {
         ensures cases { result ≡ asked (complex_reading self) symbol }
     {
         match symbol {
-            0 => Some(self.re as i64),
-            1 => Some(self.im as i64),
-            2 => Some(-(self.re as i64)),
-            3 => Some(-(self.im as i64)),
+            0 => Some(i64::from(self.re)),
+            1 => Some(i64::from(self.im)),
+            2 => Some(-i64::from(self.re)),
+            3 => Some(-i64::from(self.im)),
             _ => None,
         }
     }
-
-    /// The sample turned once, as `Sample::turn` does it.
-    pub fn turned(self) -> Complex
-        ensures { result ≡ complex_turned self }
-    {
-        self.turn()
-    }
 }
 
+#[tactic(auto, using(std::proofs::lemmas::Int::wraps))]
 impl Sample for Complex {
     ghost means = { complex_means };
 

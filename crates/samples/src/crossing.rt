@@ -20,10 +20,10 @@ fn cross_block<S: Sample>(w: &mut [S], start: usize, h: usize)
     requires { start + (h + h) ≤ length w.old }
     ensures { Halves S.Sample h start w.old w.new }
 {
+    // stays: the pairs go by index. No contract of the library says what a zip of two `iter_mut` leaves in the slices,
+    // and with halves from `split_at_mut`, one of them by index, the search takes 7 in 100 more instructions
     for j in start..start + h {
-        let (a, b) = step(w[j], w[j + h]);
-        w[j] = a;
-        w[j + h] = b;
+        (w[j], w[j + h]) = step(w[j], w[j + h]);
     }
 }
 
@@ -32,6 +32,7 @@ fn pass<S: Sample>(w: &mut [S], h: usize, blocks: usize)
     requires { blocks * (h + h) ≡ length w.old }
     ensures { (v : ℕ) → v < length w.old → at S.Sample w.new v ≡ crossed S.Sample h (at S.Sample w.old) v }
 {
+    // stays: the blocks go by number, since no contract of the library says what `chunks_exact_mut` leaves in the slice
     for n in 0..blocks {
         cross_block(w, n * (h + h), h);
     }
@@ -45,7 +46,8 @@ pub(crate) fn passes<S: Sample>(w: &mut [S], degree: usize)
 {
     let mut h = 1;
     for _ in 0..degree {
-        pass(w, h, w.len() / (2 * h));
-        h *= 2;
+        let width = 2 * h;
+        pass(w, h, w.len() / width);
+        h = width;
     }
 }

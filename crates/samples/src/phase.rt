@@ -22,22 +22,16 @@ impl Phase {
         ensures cases { result ≡ asked (phase_reading self) symbol }
     {
         match symbol {
-            0 => Some(self.at0 as i64),
-            1 => Some(self.at1 as i64),
-            2 => Some(self.at2 as i64),
-            3 => Some(self.at3 as i64),
+            0 => Some(i64::from(self.at0)),
+            1 => Some(i64::from(self.at1)),
+            2 => Some(i64::from(self.at2)),
+            3 => Some(i64::from(self.at3)),
             _ => None,
         }
     }
-
-    /// The sample turned once, as `Sample::turn` does it.
-    pub fn turned(self) -> Phase
-        ensures { result ≡ phase_turned self }
-    {
-        self.turn()
-    }
 }
 
+#[tactic(auto, using(std::proofs::lemmas::Int::wraps))]
 impl Sample for Phase {
     ghost means = { phase_means };
 

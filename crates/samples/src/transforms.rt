@@ -1,5 +1,5 @@
 //! The transform of a list of samples, in place.
-ghost use Rattle.std.specs.Prelude.{◌≡◌, ℕ, ◌*◌, ◌^◌, ◌<◌, ◌≤◌, T, length, ◌≢◌};
+ghost use Rattle.std.specs.Prelude.{◌≡◌, ℕ, ◌*◌, ◌^◌, ◌<◌, ◌≤◌, ◌≢◌, length, OnOk, OnErr, IsOkUnless};
 ghost use Rattle.samples.specs.Kind.{limit};
 ghost use Rattle.samples.specs.Outcome.{Answered};
 ghost use Rattle.samples.specs.Passes.{after};
@@ -37,20 +37,21 @@ pub fn transform<S: Sample>(w: &mut [S]) -> Result<(), Refusal>
 
 /// The transform of 2 ^ degree samples, at most 128, without a look at their sizes: for a caller that knows them.
 ///
-/// Answers whether the length fits; where it does not, nothing is written. What the places read is promised where
+/// Refused where the length does not fit the degree; nothing is written then. What the places read is promised where
 /// the length times the largest size stays within the limit of a kind.
-pub fn transform_sized<S: Sample>(w: &mut [S], degree: usize) -> bool
-    ensures fits { T result → (degree ≤ 7) × (length w.old ≡ 2 ^ degree) }
-    ensures unfit { (T result → ⊥) → degree ≤ 7 → length w.old ≢ 2 ^ degree }
-    ensures kept { (T result → ⊥) → w.new ≡ w.old }
-    ensures exact { T result → (v : ℕ) → v < length w.old → at S.Sample w.new v ≡ after S.Sample w.old degree v }
-    ensures sums { T result → (b : ℕ) → Within S.Sample b w.old → length w.old * b ≤ limit → Transformed S.Sample w.old w.new }
+pub fn transform_sized<S: Sample>(w: &mut [S], degree: usize) -> Result<(), Refusal>
+    ensures fits { OnOk result ((degree ≤ 7) × (length w.old ≡ 2 ^ degree)) }
+    ensures unfit { OnErr result (degree ≤ 7 → length w.old ≢ 2 ^ degree) }
+    ensures refusal { IsOkUnless result Refusal.Length }
+    ensures kept { OnErr result (w.new ≡ w.old) }
+    ensures exact { OnOk result ((v : ℕ) → v < length w.old → at S.Sample w.new v ≡ after S.Sample w.old degree v) }
+    ensures sums { OnOk result ((b : ℕ) → Within S.Sample b w.old → length w.old * b ≤ limit → Transformed S.Sample w.old w.new) }
 {
     if degree > 7 || w.len() != 1 << degree {
-        return false;
+        return Err(Refusal::Length);
     }
     passes(w, degree);
-    true
+    Ok(())
 }
 
 #[cfg(test)]
@@ -58,23 +59,24 @@ mod tests {
     use crate::phase::Phase;
     use crate::transforms::transform;
 
-    // Straight from the definition: the reading of a symbol at place v. Where v and p share an odd number of one
-    // bits the sample at p is turned twice, or, for comparison, subtracted.
-    fn summed(w: &[Phase], v: usize, symbol: u8, subtract: bool) -> i64 {
+    // The reading of a symbol, taken modulo 4.
+    fn read(x: &Phase, symbol: u8) -> i64 {
+        x.reading(symbol % 4).unwrap_or(0)
+    }
+
+    // Straight from the definition: the reading of a symbol at place v. What a sample gives whose place shares an odd
+    // number of one bits with v is left open: turned twice, or, for comparison, subtracted.
+    fn summed<F: Fn(&Phase) -> i64>(w: &[Phase], v: usize, symbol: u8, odd: F) -> i64
+        requires { F.IsAlwaysCallable odd }
+    {
         let mut sum: i64 = 0;
         for (p, x) in w.iter().enumerate() {
-            let odd = (v & p).count_ones() % 2 == 1;
-            let at = if odd && !subtract {
-                (symbol % 4 + 2) % 4
+            let reading = if (v & p).count_ones() % 2 == 1 {
+                odd(x)
             } else {
-                symbol % 4
+                read(x, symbol)
             };
-            let reading = x.reading(at).unwrap_or(0);
-            sum = if odd && subtract {
-                sum.wrapping_sub(reading)
-            } else {
-                sum.wrapping_add(reading)
-            };
+            sum = sum.wrapping_add(reading);
         }
         sum
     }
@@ -102,11 +104,13 @@ mod tests {
         };
         let mut t = w;
         assert!(rt; transform(&mut t).is_ok());
-        for v in 0..8 {
+        for (v, x) in t.iter().enumerate() {
             for symbol in 0..4u8 {
-                assert_eq!(rt; t[v].reading(symbol), Some(summed(&w, v, symbol, false)));
+                let turned = summed(&w, v, symbol, |y| read(y, symbol % 4 + 2));
+                assert_eq!(rt; x.reading(symbol), Some(turned));
             }
         }
-        assert_ne!(rt; t[1].reading(0), Some(summed(&w, 1, 0, true)));
+        let subtracted = summed(&w, 1, 0, |y| read(y, 0).wrapping_neg());
+        assert_ne!(rt; t[1].reading(0), Some(subtracted));
     }
 }

@@ -10,15 +10,3 @@ pub(crate) fn defined<S: Sample>(w: &[S], v: usize) -> S {
     }
     sum
 }
-
-/// Whether two samples read the same at all four symbols.
-pub(crate) fn same<S: Sample>(mut a: S, mut b: S) -> bool {
-    for _ in 0..4 {
-        if a.front() != b.front() {
-            return false;
-        }
-        a = a.turn();
-        b = b.turn();
-    }
-    true
-}

@@ -6,14 +6,18 @@ ghost use Rattle.std.specs.Prelude.{◌≤◌, length};
 mod definition;
 mod draw;
 
-use definition::{defined, same};
+use definition::defined;
 use draw::{Drawn, fill};
-use samples::{Complex, Phase, transform};
+use samples::{Complex, Phase, Sample, transform};
 use std::io;
+use std::io::Print;
+
+// The lengths that have a transform.
+const LENGTHS: [usize; 3] = [8, 32, 128];
 
 // At how many places the transform of drawn samples is what the definition gives. Both lists are drawn alike, and
 // one of them is transformed.
-fn agreeing<D: Drawn>(old: &mut [D], new: &mut [D]) -> usize
+fn agreeing<D: Drawn + PartialEq>(old: &mut [D], new: &mut [D]) -> usize
     ensures { result ≤ length new.old }
 {
     fill(old);
@@ -21,41 +25,23 @@ fn agreeing<D: Drawn>(old: &mut [D], new: &mut [D]) -> usize
     if transform(new).is_err() {
         return 0;
     }
-    let mut count = 0;
-    for (v, x) in new.iter().enumerate() {
-        if same(*x, defined(old, v)) {
-            count += 1;
-        }
+    new.iter()
+        .enumerate()
+        .filter(|(v, x)| **x == defined(old, *v))
+        .count()
+}
+
+// A line for each length, over lists as long as the longest.
+fn lines<D: Drawn + PartialEq>(rt: &impl Print, name: &str, mut old: [D; 128]) -> io::Result<()> {
+    let mut new = old;
+    for n in LENGTHS {
+        let places = agreeing(&mut old[..n], &mut new[..n]);
+        println!(rt; "{name} {n}: {places} places agree")?;
     }
-    count
-}
-
-fn complex_lines(rt: HostRuntime) -> io::Result<()> {
-    let blank = Complex { re: 0, im: 0 };
-    let short = agreeing(&mut [blank; 8], &mut [blank; 8]);
-    let middle = agreeing(&mut [blank; 32], &mut [blank; 32]);
-    let long = agreeing(&mut [blank; 128], &mut [blank; 128]);
-    println!(rt; "complex 8: {short} places agree")?;
-    println!(rt; "complex 32: {middle} places agree")?;
-    println!(rt; "complex 128: {long} places agree")
-}
-
-fn phase_lines(rt: HostRuntime) -> io::Result<()> {
-    let blank = Phase {
-        at0: 0,
-        at1: 0,
-        at2: 0,
-        at3: 0,
-    };
-    let short = agreeing(&mut [blank; 8], &mut [blank; 8]);
-    let middle = agreeing(&mut [blank; 32], &mut [blank; 32]);
-    let long = agreeing(&mut [blank; 128], &mut [blank; 128]);
-    println!(rt; "phase 8: {short} places agree")?;
-    println!(rt; "phase 32: {middle} places agree")?;
-    println!(rt; "phase 128: {long} places agree")
+    Ok(())
 }
 
 fn main(rt: HostRuntime) -> io::Result<()> {
-    complex_lines(rt)?;
-    phase_lines(rt)
+    lines(&rt, "complex", [Complex::zero(); 128])?;
+    lines(&rt, "phase", [Phase::zero(); 128])
 }

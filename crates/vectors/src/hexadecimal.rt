@@ -19,10 +19,7 @@ fn value(character: u8) -> Option<u8>
 fn byte(first: u8, second: u8) -> Option<u8>
     ensures { MatchOption result ((b : ℕ) → b < 256 → first ≡ high b → second ≢ low b) (λ b. (first ≡ high b) × (second ≡ low b)) }
 {
-    match (value(first), value(second)) {
-        (Some(h), Some(l)) => Some(16 * h + l),
-        _ => None,
-    }
+    Some(16 * value(first)? + value(second)?)
 }
 
 /// The bytes that a text writes; none where it is not pairs of digits.
@@ -33,11 +30,11 @@ pub(crate) fn bytes_of(text: &[u8], heap: Global) -> Result<Option<Vec<u8>>, All
         return Ok(None);
     }
     let mut bytes = Vec::new(heap);
-    for i in 0..text.len() / 2 {
-        match byte(text[2 * i], text[2 * i + 1]) {
-            Some(b) => bytes.push(b)?,
-            None => return Ok(None),
-        }
+    for pair in text.chunks_exact(2) {
+        let Some(b) = byte(pair[0], pair[1]) else {
+            return Ok(None);
+        };
+        bytes.push(b)?;
     }
     Ok(Some(bytes))
 }

@@ -1,124 +1,70 @@
 //! The best word by the definition: every message is encoded, and the readings at its symbols are added.
-use decoder::search::{Leader, search};
-use kerdock::books::{CodeBook, make_book};
+use decoder::search::Leader;
 use kerdock::coding::encode;
-use samples::{Complex, Phase, Sample};
+use samples::Sample;
 
-/// A kind that is read by its symbols, and drawn from random bits.
-pub(crate) trait Readable: Sample {
-    fn read(self, symbol: u8) -> i64;
+// The length of the longest words, and how many messages have such words; shorter words have fewer.
+const LONGEST: usize = 128;
 
-    fn drawn(word: u32) -> Self;
-}
+const MESSAGES: u32 = 65_536;
 
-// From -8 to 7: few enough that equal scores come often.
-fn small(word: u32) -> i32 {
-    (word % 16) as i32 - 8
-}
-
-impl Readable for Complex {
-    fn read(self, symbol: u8) -> i64 {
-        self.reading(symbol).unwrap_or(0)
+// The reading of a symbol: each turn brings that of the symbol before to the front.
+fn reading<S: Sample>(mut x: S, symbol: u8) -> i64 {
+    for _ in 0..(4 - symbol % 4) % 4 {
+        x = x.turn();
     }
-
-    fn drawn(word: u32) -> Complex {
-        Complex {
-            re: small(word >> 8),
-            im: small(word >> 16),
-        }
-    }
-}
-
-impl Readable for Phase {
-    fn read(self, symbol: u8) -> i64 {
-        self.reading(symbol).unwrap_or(0)
-    }
-
-    fn drawn(word: u32) -> Phase {
-        Phase {
-            at0: small(word >> 8),
-            at1: small(word >> 13),
-            at2: small(word >> 18),
-            at3: small(word >> 23),
-        }
-    }
+    i64::from(x.front())
 }
 
 // The score of a word over the sums.
-fn score<S: Readable>(sums: &[S], word: &[u8]) -> i64 {
-    let mut total: i64 = 0;
-    for (x, symbol) in sums.iter().zip(word.iter()) {
-        total = total.wrapping_add(x.read(*symbol));
-    }
-    total
+fn score<S: Sample>(sums: &[S], word: &[u8]) -> i64 {
+    sums.iter().zip(word).fold(0i64, |total, (x, symbol)| {
+        total.wrapping_add(reading(*x, *symbol))
+    })
 }
 
 // The best message so far, its score, and the best score of any other.
-#[derive(Clone, Copy)]
+#[derive(Clone, Copy, PartialEq, Eq, Debug)]
 struct Ranked {
     message: u32,
-    best: i64,
-    other: i64,
+    score: i64,
+    rival: i64,
 }
 
-// Every message in turn; the first of equals stays.
-fn by_definition<S: Readable>(degree: u8, sums: &[S], word: &mut [u8]) -> Ranked {
+impl Ranked {
+    // The ranking as the search answers it, where its numbers fit.
+    fn leader(self) -> Option<Leader> {
+        Some(Leader {
+            message: self.message,
+            score: i32::try_from(self.score).ok()?,
+            margin: u32::try_from(self.score.checked_sub(self.rival)?).ok()?,
+        })
+    }
+}
+
+/// Every message in turn; the first of equals stays.
+pub(crate) fn by_definition<S: Sample>(degree: u8, sums: &[S]) -> Option<Leader> {
+    let mut memory = [0u8; LONGEST];
+    let word = memory.get_mut(..sums.len())?;
     let mut top = Ranked {
         message: 0,
-        best: i64::MIN,
-        other: i64::MIN,
+        score: i64::MIN,
+        rival: i64::MIN,
     };
-    for message in 0..65536u32 {
+    for message in 0..MESSAGES {
         if encode(degree, message, word).is_err() {
-            return top;
+            break;
         }
-        let here = score(sums, word);
-        if here > top.best {
+        let score = score(sums, word);
+        if score > top.score {
             top = Ranked {
                 message,
-                best: here,
-                other: top.best,
+                score,
+                rival: top.score,
             };
         } else {
-            top.other = top.other.max(here);
+            top.rival = top.rival.max(score);
         }
     }
-    top
-}
-
-fn same(found: Option<Leader>, top: Ranked) -> bool {
-    match found {
-        Some(leader) => {
-            let margin = top.best.wrapping_sub(top.other);
-            leader.message == top.message
-                && leader.score as i64 == top.best
-                && leader.margin as i64 == margin
-        }
-        None => false,
-    }
-}
-
-/// On how many sums, drawn at random, the search answers what the definition gives.
-pub(crate) fn agreeing<S: Readable>(
-    degree: u8,
-    runs: u32,
-    sums: &mut [S],
-    work: &mut [S],
-    word: &mut [u8],
-) -> u32 {
-    let mut book = CodeBook::blank();
-    let _ = make_book(degree, &mut book);
-    let mut count: u32 = 0;
-    let mut draw: u32 = 1;
-    for _ in 0..runs {
-        for i in 0..sums.len() {
-            draw = draw.wrapping_mul(1664525).wrapping_add(1013904223);
-            sums[i] = S::drawn(draw);
-        }
-        let found = search(degree, &book, sums, work);
-        if same(found, by_definition(degree, sums, word)) {
-            count = count.saturating_add(1);
-        }
-    }
-    count
+    top.leader()
 }

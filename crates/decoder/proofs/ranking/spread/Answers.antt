@@ -1,68 +1,39 @@
-use Rattle.std.proofs.Common.{◌≡◌, ℕ, ◌+◌, ◌*◌, ◌/◌, ◌%◌, ◌^◌, ◌<◌, ◌≤◌, sym, refl, ap, ◌∙◌, mod-lt, pow-suc, div-one, add-one, arith}
-use native.Mathlib.Nat.{div-div-eq-div-mul, pow-le-pow_right}
-use Rattle.kerdock.specs.Code.{sum_to}
-use Rattle.kerdock.proofs.Sums.{sum_step}
-use Rattle.kerdock.proofs.Weights.{bit_times}
+use Rattle.std.proofs.Common.{◌≡◌, ℕ, suc, ◌+◌, ◌-◌, ◌*◌, ◌^◌, ◌<◌, ◌≤◌, refl, ap, pow-suc, arith}
+use native.Mathlib.Nat.{pow-le-pow_right}
+use Rattle.kerdock.proofs.Digits.{made}
+use Rattle.kerdock.proofs.Sums.{sum_same}
 use Rattle.decoder.specs.Cosets.{bit}
+use Rattle.decoder.proofs.Bits.{made_front}
 use Rattle.decoder.proofs.ranking.spread.Goals as goal
 
-pub loop-init : goal.loop-init
-loop-init c = (refl, sym (div-one c.args.x), refl, omega arith)
+-- one bit more, below those that stand
+record More (x k sum : ℕ) : Type 0 where
+  is : 4 * sum + bit x k ≡ made 4 (λ j. bit x (k + j)) (7 - k)
+  below : 3 * (4 * sum + bit x k) < 4 ^ (7 - k)
+  fits : 4 * sum + bit x k < 4 ^ 7
 
--- what the k-th weight w and its product with a bit x are at most, and the weight after it
-record Room (w k x : ℕ) : Type 0 where
-  light : w ≤ 4 ^ 6
-  times : w * x ≤ w
-  next : w * 4 ≡ 4 ^ (k + 1)
+-- k and the bits after it, for the loop's k + 1
+more : (x k l sum : ℕ) → 0 < l → l ≤ 7 → k ≡ l - 1 → sum ≡ made 4 (λ j. bit x (l + j)) (7 - l) → 3 * sum < 4 ^ (7 - l) → More x k sum
+more x k l sum some seven e is s =
+    let next : 7 - k ≡ suc (7 - l) = omega arith in
+    let up = pow-suc 4 (7 - l) in
+    let front = made_front 4 (λ j. bit x (k + j)) (7 - l) in
+    let rest : made 4 (λ j. bit x (l + j)) (7 - l) ≡ made 4 (λ j. bit x (k + suc j)) (7 - l) =
+    sum_same _ _ (7 - l) (λ j b. let same : l + j ≡ k + suc j = omega arith in ap (λ (y : ℕ). 4 ^ j * bit x y) same) in
+    let first : bit x (k + 0) ≡ bit x k = let same : k + 0 ≡ k = omega arith in ap (bit x) same in
+    let light : suc (7 - l) ≤ 7 = omega arith in
+    let p : 4 ^ suc (7 - l) ≤ 4 ^ 7 = pow-le-pow_right (let four : 0 < 4 = omega arith in four) light in
+    record { is = rw next (omega arith); below = rw next (omega arith); fits = omega arith }
 
--- the k-th weight, for k below 7
-room : (w k x : ℕ) → w ≡ 4 ^ k → k < 7 → x < 2 → Room w k x
-room w k x e l h =
-    let six : k ≤ 6 = omega arith in
-    let p : 4 ^ k ≤ 4 ^ 6 = pow-le-pow_right (omega arith) six in
-    record {
-      light = omega arith;
-      times = bit_times w x h;
-      next = ap (λ (y : ℕ). y * 4) e ∙ sym (pow-suc 4 k) ∙ ap (λ (y : ℕ). 4 ^ y) (sym (add-one k));
-    }
-
--- the room for one more bit in the loop
-bit_more : (c : goal.In-loop) → Room c.loop.weight c.loop.counter (c.loop.rest % 2)
-bit_more c = room _ _ _ c.loop.invariant.0 (omega arith) (mod-lt _ (omega arith))
+-- at the turn of one bit
+turn : (c : goal.In-loop-k) → More c.args.x (c.loop-k.k - 1) c.loop-k.sum
+turn c = more c.args.x (c.loop-k.k - 1) c.loop-k.k c.loop-k.sum c.loop-k-test.true c.loop-k.auto.k refl c.loop-k.invariant.is c.loop-k.invariant.below
 
 pub overflow_mul-sum : goal.overflow_mul-sum
-overflow_mul-sum c = let m = bit_more c in omega arith
+overflow_mul-sum c = let m = (turn c).fits in omega arith
 
 pub overflow_add-sum : goal.overflow_add-sum
-overflow_add-sum c = let m = bit_more c in let i = c.loop.invariant in omega arith
+overflow_add-sum c = let m = (turn c).fits in omega arith
 
-pub overflow_mul-weight : goal.overflow_mul-weight
-overflow_mul-weight c = let m = bit_more c in omega arith
-
-pub loop-preserved : goal.loop-preserved
-loop-preserved c =
-    let m = bit_more c in
-    let k = c.loop.counter in
-    let x = c.args.x in
-    let term : ℕ → ℕ = λ l. 4 ^ l * bit x l in
-    let w = c.loop.invariant.0 in
-    let a = c.loop.invariant.1 in
-    let s = c.loop.invariant.3 in
-    let e : c.loop.weight * (c.loop.rest % 2) ≡ term k = cc in
-    let p : 2 ^ k * 2 ≡ 2 ^ (k + 1) = sym (pow-suc 2 k) ∙ ap (λ (y : ℕ). 2 ^ y) (sym (add-one k)) in
-    let n = m.next in (
-      n,
-      ap (λ (y : ℕ). y / 2) a ∙ div-div-eq-div-mul x (2 ^ k) 2 ∙ ap (λ (y : ℕ). x / y) p,
-      ap (λ (y : ℕ). c.loop.sum + y) e ∙ sum_step term c.loop.sum k c.loop.invariant.2,
-      omega arith,
-    )
-
-pub returns : goal.returns
-returns c =
-    let n : c.loop.counter ≡ 7 = omega arith in
-    let s = c.loop.invariant.3 in
-    let b : 3 * c.loop.sum < 4 ^ 7 = rw n at s in
-    record {
-      is = c.loop.invariant.2 ∙ ap (sum_to (λ k. 4 ^ k * bit c.args.x k)) n;
-      below = b;
-    }
+pub loop-k-preserved : goal.loop-k-preserved
+loop-k-preserved c = let m = turn c in record { is = m.is; below = m.below }

@@ -1,11 +1,11 @@
-use Rattle.std.proofs.Common.{◌≡◌, ◌*◌, ◌/◌, ◌^◌, ◌<◌}
-use Rattle.kerdock.specs.Code.{sum_to}
+-- The bits from k on stand as the digits from 0 on.
+use Rattle.std.proofs.Common.{◌≡◌, ◌+◌, ◌-◌, ◌*◌, ◌^◌, ◌<◌}
+use Rattle.kerdock.proofs.Digits.{made}
 use Rattle.decoder.specs.Cosets.{bit}
 use Rattle.decoder.proofs.ranking.spread.Given as goal
 
-abbrev pub invariant-loop : goal.invariant-loop
-invariant-loop l =
-    (l.weight ≡ 4 ^ l.counter)
-    × (l.rest ≡ l.x / 2 ^ l.counter)
-    × (l.sum ≡ sum_to (λ k. 4 ^ k * bit l.x k) l.counter)
-    × (3 * l.sum < 4 ^ l.counter)
+abbrev pub invariant-loop-k : goal.invariant-loop-k
+invariant-loop-k l = record {
+  is : l.sum ≡ made 4 (λ j. bit l.x (l.k + j)) (7 - l.k);
+  below : 3 * l.sum < 4 ^ (7 - l.k);
+}

@@ -1,5 +1,5 @@
 use Rattle.std.proofs.Common.{◌≡◌, ℕ, ◌<◌, get_or}
 use Rattle.decoder.proofs.search.clean.Given as goal
 
-abbrev pub invariant-loop-i : goal.invariant-loop-i
-invariant-loop-i g l = (k : ℕ) → k < l.i → get_or l.work k g.S.Sample.zeroed ≡ g.S.Sample.zeroed
+abbrev pub invariant-loop-x : goal.invariant-loop-x
+invariant-loop-x g l = (k : ℕ) → k < l.x-index → get_or l.work k g.S.Sample.zeroed ≡ g.S.Sample.zeroed

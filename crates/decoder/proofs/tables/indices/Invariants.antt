@@ -6,7 +6,8 @@ use Rattle.kerdock.specs.Books.{Lawful}
 use Rattle.decoder.proofs.tables.indices.Given as goal
 
 abbrev pub invariant-loop-i : goal.invariant-loop-i
-invariant-loop-i l =
-    (length l.at ≡ 256)
-    × ((p : ℕ) → get_or l.at p 0 < l.n)
-    × ((row : Row) → Sound row → size row ≡ l.n → Lawful row l.book → (i : ℕ) → i < l.i → get_or l.at (place row i) 0 ≡ i)
+invariant-loop-i l = record {
+  long : length l.at ≡ 256;
+  below : (p : ℕ) → get_or l.at p 0 < l.n;
+  found : (row : Row) → Sound row → size row ≡ l.n → Lawful row l.book → (i : ℕ) → i < l.i → get_or l.at (place row i) 0 ≡ i;
+}

@@ -1,4 +1,4 @@
-use Rattle.std.proofs.Common.{◌≡◌, ℕ, ◌*◌, ◌^◌, ◌<◌, length, sym, refl, ap, ◌∙◌, subst, pow-suc, add-one, arith}
+use Rattle.std.proofs.Common.{◌≡◌, ℕ, ◌^◌, ◌<◌, length, sym, refl, ap, ◌∙◌, subst, pow-suc, add-one, arith}
 use Rattle.samples.specs.Passes.{after}
 use Rattle.samples.specs.Sizes.{at}
 use Rattle.samples.proofs.Partly.{transformed}
@@ -9,8 +9,8 @@ pub loop-init : goal.loop-init
 unfolding after
 loop-init g c = (refl, λ v l. refl)
 
-pub overflow_mul-h : goal.overflow_mul-h
-overflow_mul-h g c =
+pub overflow_mul-width : goal.overflow_mul-width
+overflow_mul-width g c =
     let f = fits c.args.degree c.loop.counter (length c.args.w.now) c.loop.h c.requires c.loop-test.true c.loop.invariant.0 in
     omega arith
 
@@ -19,11 +19,6 @@ pass-requires g c =
     let long : length c.loop.w ≡ 2 ^ c.args.degree = c.loop.auto.w ∙ c.requires in
     filled c.args.degree c.loop.counter (length c.loop.w) c.loop.h long c.loop-test.true c.loop.invariant.0
 
-pub overflow_mul-h-in-loop : goal.overflow_mul-h-in-loop
-overflow_mul-h-in-loop g c =
-    let f = fits c.args.degree c.loop.counter (length c.args.w.now) c.loop.h c.requires c.loop-test.true c.loop.invariant.0 in
-    omega arith
-
 pub loop-preserved : goal.loop-preserved
 loop-preserved g c =
     let m = g.S.Sample in
@@ -31,7 +26,7 @@ loop-preserved g c =
     let old = c.args.w.now in
     let e = c.loop.invariant.0 in
     let kept = c.loop.auto.w in (
-      ap (λ x. x * 2) e ∙ sym (pow-suc 2 d) ∙ ap (λ x. 2 ^ x) (sym (add-one d)),
+      (let p = pow-suc 2 d in omega arith) ∙ ap (λ x. 2 ^ x) (sym (add-one d)),
       subst (λ x. (v : ℕ) → v < length old → at m c.pass.new.w v ≡ after m old x v) (sym (add-one d))
           (one_more c.args.degree d (length old) c.loop.h c.requires c.loop-test.true e m old c.loop.w c.pass.new.w c.loop.invariant.1 (λ v l. c.pass.ensures v (omega arith))),
     )

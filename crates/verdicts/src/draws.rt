@@ -1,0 +1,62 @@
+//! Sums drawn at random, on which the search is compared with the definition.
+use crate::decided;
+use crate::definition::by_definition;
+use samples::{Complex, Phase, Sample};
+
+/// A kind of samples that is drawn from random bits.
+pub(crate) trait Drawn: Sample {
+    fn drawn(word: u32) -> Self;
+}
+
+// From -8 to 7: few enough that equal scores come often.
+fn small(word: u32) -> i32 {
+    (word % 16) as i32 - 8
+}
+
+impl Drawn for Complex {
+    fn drawn(word: u32) -> Complex {
+        Complex {
+            re: small(word >> 8),
+            im: small(word >> 16),
+        }
+    }
+}
+
+impl Drawn for Phase {
+    fn drawn(word: u32) -> Phase {
+        Phase {
+            at0: small(word >> 8),
+            at1: small(word >> 13),
+            at2: small(word >> 18),
+            at3: small(word >> 23),
+        }
+    }
+}
+
+// Random words, each made from the one before.
+#[derive(Drop)]
+struct Draws(u32);
+
+impl Draws {
+    fn fill<S: Drawn>(&mut self, sums: &mut [S]) {
+        for x in sums.iter_mut() {
+            self.0 = self.0.wrapping_mul(1_664_525).wrapping_add(1_013_904_223);
+            *x = S::drawn(self.0);
+        }
+    }
+}
+
+/// On how many sums, drawn at random into the memory given, the search answers what the definition gives.
+pub(crate) fn agreeing<S: Drawn, const N: usize>(degree: u8, runs: u32, mut sums: [S; N]) -> u32 {
+    let mut draws = Draws(1);
+    let mut work = sums;
+    let mut count = 0;
+    for _ in 0..runs {
+        draws.fill(&mut sums);
+        let found = decided(degree, &sums, &mut work);
+        if found.is_some() && found == by_definition(degree, &sums) {
+            count += 1;
+        }
+    }
+    count
+}
