@@ -11,7 +11,7 @@ use Rattle.bay.specs.Rules.Answer.{Delivered}
 use Rattle.bay.specs.Rules.Dealing.{Decide as Deciding}
 use Rattle.bay_rules.specs.Steps.{Steps}
 use Rattle.bay_rules.specs.Lived.{State}
-use Rattle.bay_calls.specs.Seen.{five, seen}
+use Rattle.bay_calls.specs.Seen.{five, seen, state, delivered}
 use Rattle.bay_calls.proofs.Means.{as_many}
 use Rattle.bay_rules.proofs.Living.{deals}
 use Rattle.bay_rules.proofs.Replaying.{only_the_score}
@@ -19,6 +19,12 @@ use Rattle.bay_rules.proofs.Settling.{decides}
 use Rattle.bay_calls.proofs.Stages.{gathers}
 use Rattle.bay_calls.proofs.Searching.{searched_fits, small_sums}
 use Rattle.bay_calls.proofs.bays.Bay.decide.Goals as goal
+
+pub returns-in_err-admit-clause-deals : goal.returns-in_err-admit-clause-deals
+returns-in_err-admit-clause-deals g c =
+    let b = state g.S.Sample c.args.self.now in
+    let done : Steps b (Deciding (length c.args.work.now)) (delivered c.from_residual.result) b = search rules in
+    deals _ _ _ _ done
 
 pub returns : goal.returns
 returns g c =

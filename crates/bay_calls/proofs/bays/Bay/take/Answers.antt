@@ -1,13 +1,21 @@
-use Rattle.std.proofs.Common.{sym, refl, ◌∙◌}
+use Rattle.std.proofs.Common.{sym, refl, ◌∙◌, rules}
 use Rattle.decoder.specs.Search.{meanings}
 use Rattle.bay_calls.specs.declared.admission.Call.TheVariants.{Take}
 use Rattle.bay_calls.specs.Admission.{admitted}
-use Rattle.bay_calls.specs.Seen.{state}
+use Rattle.bay_calls.specs.Seen.{state, counted}
 use Rattle.bay_calls.proofs.Means.{as_many, added_means, no_large, one_large}
 use Rattle.bay_rules.proofs.Living.{deals}
 use Rattle.bay_rules.proofs.Settling.{take_too_large, take_full, takes}
 use Rattle.bay_calls.proofs.Stages.{gathers}
+use Rattle.bay.specs.Rules.Dealing.{Take as Taking}
+use Rattle.bay_rules.specs.Steps.{Steps}
 use Rattle.bay_calls.proofs.bays.Bay.take.Goals as goal
+
+pub returns-in_err-admit-clause-deals : goal.returns-in_err-admit-clause-deals
+returns-in_err-admit-clause-deals g c =
+    let b = state g.S.Sample c.args.self.now in
+    let done : Steps b (Taking (meanings g.S.Sample c.args.reception.now)) (counted c.from_residual.result) b = search rules in
+    deals _ _ _ _ done
 
 pub returns-in-Some : goal.returns-in-Some
 returns-in-Some g c =
