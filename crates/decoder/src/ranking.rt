@@ -1,4 +1,4 @@
-// The ranking of messages by their scores.
+//! The ranking of messages by their scores.
 ghost use Rattle.std.specs.Prelude.{◌≡◌, ℕ, ◌+◌, ◌*◌, ◌^◌, ◌<◌, ◌≤◌, ◌↔◌, IsTrue, length, ℤ, ◌≤ℤ◌, ◌<ℤ◌, unsigned_abs};
 ghost use Rattle.samples.specs.Kind.{limit};
 ghost use Rattle.samples.specs.Meaning.{reads};
@@ -97,11 +97,7 @@ fn peak_of<S: Sample>(x: S) -> i32
 fn peak<S: Sample>(work: &[S]) -> i32
     ensures { Within S.Sample limit work.now → (v e : ℕ) → v < length work.now → e < 4 → reading_at S.Sample work.now v e ≤ℤ result }
 {
-    let mut peak = i32::MIN;
-    for x in work {
-        peak = peak.max(peak_of(*x));
-    }
-    peak
+    work.iter().map(|x| peak_of(*x)).max().unwrap_or(i32::MIN)
 }
 
 // The seven lowest bits of a number, bit k as the base-4 digit k.

@@ -1,4 +1,4 @@
-// Tables of one search: the index of each place, and the leader of each coset by place.
+//! Tables of one search: the index of each place, and the leader of each coset by place.
 ghost use Rattle.std.specs.Prelude.{◌≡◌, ℕ, ◌+◌, ◌-◌, ◌%◌, ◌^◌, ◌<◌, ◌≤◌, [], length, slice_index, slice_index_or};
 ghost use Rattle.kerdock.specs.Code.{Row, size, symbol, place};
 ghost use Rattle.kerdock.specs.Sound.{Sound};
