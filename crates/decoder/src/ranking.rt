@@ -12,6 +12,7 @@ ghost use Rattle.decoder.specs.Visits.{Ranked, Apart, visit, Here};
 use samples::Sample;
 
 // The best message so far, its score, and the best score of any other.
+// stays: that it is the ranking so far (`Ranked`) is no invariant of it, since the search takes any book and any sums, lawful or not
 #[derive(Clone, Copy, PartialEq, Eq, Debug)]
 pub(crate) struct Best {
     pub(crate) message: u32,
@@ -48,7 +49,7 @@ impl Best {
 
     // Whether no score up to `top` can change the ranking. At the best score itself a smaller message still could.
     fn passes_over(&self, top: i32) -> bool
-        ensures { IsTrue result ↔ (top ≤ℤ self.now.rival) × (top <ℤ self.now.score) }
+        ensures { IsTrue result ↔ ((top ≤ℤ self.now.rival) × (top <ℤ self.now.score)) }
     {
         top <= self.rival && top < self.score
     }

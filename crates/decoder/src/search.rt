@@ -67,8 +67,10 @@ pub fn search<S: Sample>(degree: u8, book: &CodeBook, sums: &[S], work: &mut [S]
     let mut tables = Tables::blank(usize::from(degree));
     tables.fill(book);
     let mut best = Best::nobody();
+    // stays: u is the number of a coset, and no slice of cosets is there to go over
     for u in 0..n {
         tables.lay(u, sums, work);
+        // the work memory has the degree's length, so that nothing is refused
         let _ = transform_sized(work, usize::from(degree));
         best.rank_coset(work, u);
     }
