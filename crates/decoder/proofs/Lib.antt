@@ -12,6 +12,7 @@ pub mod VisitOrder
 pub mod Laying
 pub mod Steps
 pub mod PassingOver
+pub mod Peaks
 pub mod VisitTimes
 pub mod SampleTurns
 pub mod Spreads

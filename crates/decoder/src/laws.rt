@@ -1,4 +1,4 @@
-// The laws of scores and rankings, for every sound row of the degree table.
+//! The laws of scores and rankings, for every sound row of the degree table.
 ghost use Rattle.kerdock.specs.Code.{Row};
 ghost use Rattle.kerdock.specs.Sound.{Sound};
 ghost use Rattle.decoder.specs.Cosets.{Cosets};

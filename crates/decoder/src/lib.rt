@@ -1,4 +1,4 @@
-// The best of every word: scores, rankings, and the search for the word that leads.
+//! The best of every word: scores, rankings, and the search for the word that leads.
 #![tactic(auto)]
 
 pub mod examples;

@@ -1,4 +1,4 @@
-// The ranking of messages by their scores.
+//! The ranking of messages by their scores.
 ghost use Rattle.std.specs.Prelude.{◌≡◌, ℕ, ◌+◌, ◌*◌, ◌^◌, ◌<◌, ◌≤◌, ◌↔◌, IsTrue, length, ℤ, ◌≤ℤ◌, ◌<ℤ◌, unsigned_abs};
 ghost use Rattle.samples.specs.Kind.{limit};
 ghost use Rattle.samples.specs.Meaning.{reads};
@@ -12,6 +12,7 @@ ghost use Rattle.decoder.specs.Visits.{Ranked, Apart, visit, Here};
 use samples::Sample;
 
 // The best message so far, its score, and the best score of any other.
+// stays: that it is the ranking so far (`Ranked`) is no invariant of it, since the search takes any book and any sums, lawful or not
 #[derive(Clone, Copy, PartialEq, Eq, Debug)]
 pub(crate) struct Best {
     pub(crate) message: u32,
@@ -48,7 +49,7 @@ impl Best {
 
     // Whether no score up to `top` can change the ranking. At the best score itself a smaller message still could.
     fn passes_over(&self, top: i32) -> bool
-        ensures { IsTrue result ↔ (top ≤ℤ self.now.rival) × (top <ℤ self.now.score) }
+        ensures { IsTrue result ↔ ((top ≤ℤ self.now.rival) × (top <ℤ self.now.score)) }
     {
         top <= self.rival && top < self.score
     }
@@ -97,11 +98,7 @@ fn peak_of<S: Sample>(x: S) -> i32
 fn peak<S: Sample>(work: &[S]) -> i32
     ensures { Within S.Sample limit work.now → (v e : ℕ) → v < length work.now → e < 4 → reading_at S.Sample work.now v e ≤ℤ result }
 {
-    let mut peak = i32::MIN;
-    for x in work {
-        peak = peak.max(peak_of(*x));
-    }
-    peak
+    work.iter().map(|x| peak_of(*x)).max().unwrap_or(i32::MIN)
 }
 
 // The seven lowest bits of a number, bit k as the base-4 digit k.

@@ -1,4 +1,4 @@
-// The search over all cosets: the word that leads, its score and its margin.
+//! The search over all cosets: the word that leads, its score and its margin.
 ghost use Rattle.std.specs.Prelude.{Some};
 ghost use Rattle.decoder.specs.Leaders.{LeaderOf, line};
 ghost use Rattle.decoder.specs.Search.{Zeros, Searched};
@@ -10,7 +10,7 @@ use kerdock::coding::word_length;
 use samples::{Sample, transform_sized};
 use std::fmt;
 
-// The message that leads, its score, and its lead over the best other word.
+/// The message that leads, its score, and its lead over the best other word.
 #[derive(Clone, Copy, PartialEq, Eq, Debug)]
 pub struct Leader {
     pub message: u32,
@@ -31,7 +31,6 @@ impl From<Best> for Leader {
     }
 }
 
-// The leader as a line of text.
 impl fmt::Display for Leader {
     ghost output = { λ leader. Some (line leader) };
 
@@ -45,16 +44,19 @@ impl fmt::Display for Leader {
     }
 }
 
-// Makes every sample the zero sample.
+/// Makes every sample the zero sample.
 pub fn clean<S: Sample>(work: &mut [S])
     ensures { Zeros S.Sample work.old work.new }
 {
+    // stays: `fill` asks for a clone that cannot fail, which no kind promises, and a call of `fill_with` gets no generated proof
     for x in work.iter_mut() {
         *x = S::zero();
     }
 }
 
-// The leading message over the sums. The sums stay as they are, and the work memory is left as zeros.
+/// The leading message over the sums, or nothing where the degree is not in the table or a length is not its words'.
+///
+/// The sums stay as they are, and the work memory is left as zeros; where nothing is answered, nothing is written.
 pub fn search<S: Sample>(degree: u8, book: &CodeBook, sums: &[S], work: &mut [S]) -> Option<Leader>
     ensures { Searched S.Sample degree book.now sums.now work.old result work.new }
 {
@@ -65,6 +67,7 @@ pub fn search<S: Sample>(degree: u8, book: &CodeBook, sums: &[S], work: &mut [S]
     let mut tables = Tables::blank(usize::from(degree));
     tables.fill(book);
     let mut best = Best::nobody();
+    // stays: u is the number of a coset, and no slice of cosets is there to go over
     for u in 0..n {
         tables.lay(u, sums, work);
         transform_sized(work, usize::from(degree)).unwrap();

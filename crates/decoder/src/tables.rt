@@ -1,4 +1,4 @@
-// Tables of one search: the index of each place, and the leader of each coset by place.
+//! Tables of one search: the index of each place, and the leader of each coset by place.
 ghost use Rattle.std.specs.Prelude.{◌≡◌, ℕ, ◌+◌, ◌-◌, ◌%◌, ◌^◌, ◌<◌, ◌≤◌, [], length, slice_index, slice_index_or};
 ghost use Rattle.kerdock.specs.Code.{Row, size, symbol, place};
 ghost use Rattle.kerdock.specs.Sound.{Sound};
@@ -29,6 +29,7 @@ fn sum_of(mut row: [u8; 128], unit: &[u8; 128]) -> [u8; 128]
     requires unit { (p : ℕ) → slice_index unit.now p < 4 }
     ensures { (p : ℕ) → slice_index result p ≡ (slice_index row p + slice_index unit.now p) % 4 }
 {
+    // stays: the other row by index, since a proof knows nothing of what is written through `iter_mut().zip(..)`
     for (p, symbol) in row.iter_mut().enumerate() {
         *symbol = (*symbol + unit[p]) & 3;
     }
@@ -76,6 +77,7 @@ impl Tables {
         for k in 0..self.degree {
             let unit = self.unit_row(book, k);
             let half = 1 << k;
+            // stays: rows by index; after a `split_at_mut` one of the two would still go by index, as in `sum_of`
             for u in 0..half {
                 self.leaders[half + u] = sum_of(self.leaders[u], &unit);
             }
@@ -91,6 +93,7 @@ impl Tables {
         let n = 1 << self.degree;
         let period = n - 1;
         let mut unit = [0; 128];
+        // stays: places by index, as in `sum_of`
         for (p, index) in self.at[..n].iter().enumerate() {
             if *index > 0 {
                 let j = usize::from(*index) - 1 + k;
@@ -108,6 +111,7 @@ impl Tables {
         ensures { (p : ℕ) → p < length work.new → slice_index_or work.new p S.zeroed ≡ times S.Sample ((4 - slice_index (slice_index_or self.now.leaders u []) p) % 4) (slice_index_or sums.now (slice_index self.now.at p) S.zeroed) }
     {
         let leader = &self.leaders[u];
+        // stays: places by index, as in `sum_of`
         for (p, sample) in work.iter_mut().enumerate() {
             let x = sums[usize::from(self.at[p])];
             let y = x.turn();

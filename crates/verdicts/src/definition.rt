@@ -3,11 +3,6 @@ use decoder::search::Leader;
 use kerdock::coding::encode;
 use samples::Sample;
 
-// The length of the longest words, and how many messages have such words; shorter words have fewer.
-const LONGEST: usize = 128;
-
-const MESSAGES: u32 = 65_536;
-
 // The reading of a symbol: each turn brings that of the symbol before to the front.
 fn reading<S: Sample>(mut x: S, symbol: u8) -> i64 {
     for _ in 0..(4 - symbol % 4) % 4 {
@@ -44,17 +39,16 @@ impl Ranked {
 
 /// Every message in turn; the first of equals stays.
 pub(crate) fn by_definition<S: Sample>(degree: u8, sums: &[S]) -> Option<Leader> {
-    let mut memory = [0u8; LONGEST];
-    let word = memory.get_mut(..sums.len())?;
+    let n = sums.len();
+    let mut memory = [0u8; 128];
+    let word = memory.get_mut(..n)?;
     let mut top = Ranked {
         message: 0,
         score: i64::MIN,
         rival: i64::MIN,
     };
-    for message in 0..MESSAGES {
-        if encode(degree, message, word).is_err() {
-            break;
-        }
+    for message in 0..(4 * n * n) as u32 {
+        encode(degree, message, word).ok()?;
         let score = score(sums, word);
         if score > top.score {
             top = Ranked {
