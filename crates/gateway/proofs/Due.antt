@@ -1,17 +1,15 @@
 -- Nothing that is asked for a file that was accepted is refused.
-use Rattle.std.proofs.Common.{◌≡◌, ℕ, ◌^◌, ◌<◌, ◌≤◌, true, false, eqb, ◌⊎◌, List, length, None, sym, refl, ◌∙◌, subst, inl, inr, arith, eq-eqb, ne_eqb}
+use Rattle.std.proofs.Common.{◌≡◌, ℕ, ◌^◌, ◌<◌, ◌≤◌, true, false, eqb, List, length, None, sym, refl, ◌∙◌, subst, inl, inr, arith, eq-eqb, ne_eqb}
 use Rattle.samples.specs.Sizes.{Within}
 use Rattle.samples.specs.declared.sample.Sample.{Ghosts}
 use Rattle.kerdock.specs.Code.{size}
 use Rattle.kerdock.specs.Table.{row_of, known}
 use Rattle.decoder.specs.Search.{meanings}
 use Rattle.reception_file.specs.Layout.{at, samples_of, GoodDegree}
-use Rattle.reception_file.specs.Check.{Accepted, Faulty}
 use Rattle.reception_file.specs.Pick.{Unfit}
 use Rattle.reception_file.specs.declared.refusal.Refusal.{Refusal}
 use Rattle.reception_file.specs.declared.refusal.Refusal.TheVariants.{Memory, Short, Mark, Version, Kind, Degree, Count, Length, Part, Reception, Room}
 use Rattle.reception_file.specs.declared.stored.Stored.{Ghosts as StoredGhosts}
-use Rattle.reception_file.proofs.Accepting.{never_faulty}
 use Rattle.bay.specs.Rules.{Run, holds, out, shut, denial}
 use Rattle.bay.specs.Rules.Dealing.{Take, Decide}
 use Rattle.bay_calls.specs.Seen.{opening}
@@ -52,7 +50,8 @@ free_decide bs n w h good none many some same =
     rw (e1, none, e3, e4)
 
 module _ {S : Type 0} (m : Ghosts S) (t : StoredGhosts S) where
-  never_unfit : (bs : List ℕ) (r n : ℕ) → at bs 5 ≡ t.code → r < at bs 7 → n ≡ samples_of (at bs 6) → (e : Refusal) → Unfit m t bs r n e → ⊥
+  -- a reception of the file is picked into memory of its length
+  pub never_unfit : (bs : List ℕ) (r n : ℕ) → at bs 5 ≡ t.code → r < at bs 7 → n ≡ samples_of (at bs 6) → (e : Refusal) → Unfit m t bs r n e → ⊥
   never_unfit bs r n kind inside long Kind u = u kind
   never_unfit bs r n kind inside long Reception u = let q = u.1 in omega arith
   never_unfit bs r n kind inside long Memory u = u.2 long
@@ -64,12 +63,6 @@ module _ {S : Type 0} (m : Ghosts S) (t : StoredGhosts S) where
   never_unfit bs r n kind inside long (Length k) u = u
   never_unfit bs r n kind inside long (Part p) u = u
   never_unfit bs r n kind inside long Room u = u
-
-  -- a reception of the file is picked into memory of its length
-  pub never_refused : (bs : List ℕ) (r n : ℕ) (e : Refusal) → Faulty bs e ⊎ (Accepted bs × Unfit m t bs r n e) →
-      Accepted bs → at bs 5 ≡ t.code → r < at bs 7 → n ≡ samples_of (at bs 6) → ⊥
-  never_refused bs r n e (inl f) a kind inside long = never_faulty bs a e f
-  never_refused bs r n e (inr u) a kind inside long = never_unfit bs r n kind inside long e u.1
 
   -- and taken, where fewer than sixteen are held
   pub free_take : (bs : List ℕ) (n : ℕ) (h : Run) (xs : List S) → GoodDegree (at bs 6) → out h ≡ None → length (holds h) ≡ n → n < 16 →

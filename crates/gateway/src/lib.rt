@@ -3,10 +3,8 @@
 
 mod decoding;
 pub mod laws;
-mod outcome;
 mod printing;
 mod taking;
 
 pub use decoding::decode;
-pub use outcome::Outcome;
 pub use printing::line;

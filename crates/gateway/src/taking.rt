@@ -1,26 +1,23 @@
 //! The receptions of a file in a bay of any one kind of samples, and the verdict over them.
 ghost use Rattle.std.specs.Prelude.{◌≡◌, ◌+◌, ◌<◌, length};
 ghost use Rattle.reception_file.specs.Layout.{at};
-ghost use Rattle.reception_file.specs.Check.{Accepted, Heads};
 ghost use Rattle.bay_calls.specs.Seen.{state};
 ghost use Rattle.gateway.specs.Receptions.{samples_at};
 ghost use Rattle.gateway.specs.Partly.{Took, Ripe, Settles, Settled};
 
-use crate::decoding::samples_in;
 use bay_calls::{Bay, Numbers};
-use reception_file::{Head, Stored, pick};
+use reception_file::{CheckedFile, Stored};
 use samples::Sample;
 
 /// Picks the reception of a number and has the bay take it.
-fn take_one<S: Stored>(bytes: &[u8], number: usize, bay: &mut Bay<'_, S>, memory: &mut [S])
-    requires file { Accepted bytes.now }
-    requires kind { at bytes.now 5 ≡ S.Stored.code }
-    requires inside { number < at bytes.now 7 }
-    requires long { length memory.old ≡ samples_at bytes.now }
-    requires took { Took S.Sample S.Stored.own bytes.now number (state S.Sample bay.old) }
-    ensures { Took S.Sample S.Stored.own bytes.now (number + 1) (state S.Sample bay.new) }
+fn take_one<S: Stored>(file: CheckedFile<'_>, number: usize, bay: &mut Bay<'_, S>, memory: &mut [S])
+    requires kind { at file.bytes.now 5 ≡ S.Stored.code }
+    requires inside { number < at file.bytes.now 7 }
+    requires long { length memory.old ≡ samples_at file.bytes.now }
+    requires took { Took S.Sample S.Stored.own file.bytes.now number (state S.Sample bay.old) }
+    ensures { Took S.Sample S.Stored.own file.entry.bytes.now (number + 1) (state S.Sample bay.new) }
 {
-    let _degree = pick(bytes, number, memory).unwrap();
+    file.pick(number, memory).unwrap();
     let _held = bay.take(memory).unwrap();
 }
 
@@ -37,19 +34,17 @@ fn settle<S: Sample>(bay: &mut Bay<'_, S>, work: &mut [S]) -> Numbers
 
 /// The verdict over the receptions of a file, with memory of the longest reception each for the sums, the search and the
 /// picking.
-pub(crate) fn decode_as<S: Stored>(bytes: &[u8], head: Head, zeros: [S; 128]) -> Numbers
-    requires file { Accepted bytes.now }
-    requires heads { Heads bytes.now head }
-    requires kind { at bytes.now 5 ≡ S.Stored.code }
-    ensures { Settled S.Sample S.Stored.own bytes.now result }
+pub(crate) fn decode_as<S: Stored>(file: CheckedFile<'_>, zeros: [S; 128]) -> Numbers
+    requires { at file.bytes.now 5 ≡ S.Stored.code }
+    ensures { Settled S.Sample S.Stored.own file.entry.bytes.now result }
 {
-    let n = samples_in(head.degree);
+    let n = file.head.samples();
     let mut sums = zeros;
     let mut work = zeros;
     let mut memory = zeros;
-    let mut bay = Bay::open(head.degree, &mut sums[..n]);
-    for r in 0..usize::from(head.count) {
-        take_one(bytes, r, &mut bay, &mut memory[..n]);
+    let mut bay = Bay::open(file.head.degree.into(), &mut sums[..n]);
+    for number in 0..usize::from(file.head.count) {
+        take_one(file, number, &mut bay, &mut memory[..n]);
     }
     settle(&mut bay, &mut work[..n])
 }

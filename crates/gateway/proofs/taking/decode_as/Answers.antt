@@ -8,27 +8,27 @@ use Rattle.gateway.proofs.taking.decode_as.Goals as goal
 
 pub settle-requires : goal.settle-requires
 settle-requires g c =
-    let k = c.loop-r.invariant in
-    let a = c.requires.file.0.0 in
-    let count = c.requires.heads.2 in
+    let k = c.loop-number.invariant in
+    let a = c.args.file.accepted.0.0 in
+    let count = c.args.file.heads.2 in
     let some = a.5.0 in
-    let long : length (take c.samples_in-n.result c.args.zeros) ≡ samples_at c.args.bytes.now = search rules in
+    let long : length (take c.samples-n.result c.args.zeros) ≡ samples_at c.args.file.bytes.now = search rules in
     record {
-      from = file_opening c.args.bytes.now;
+      from = file_opening c.args.file.bytes.now;
       run = k.run;
       lived = k.lived;
-      free = free_decide c.args.bytes.now c.loop-r.r _ k.run a.4 k.none k.first.many (omega arith) long;
+      free = free_decide c.args.file.bytes.now c.loop-number.number _ k.run a.4 k.none k.first.many (omega arith) long;
     }
 
 pub returns : goal.returns
 returns g c =
-    let k = c.loop-r.invariant in
+    let k = c.loop-number.invariant in
     let done = c.settle.ensures _ _ k.lived in
-    let count = c.requires.heads.2 in
-    let all : c.loop-r.r ≡ at c.args.bytes.now 7 = omega arith in
+    let count = c.args.file.heads.2 in
+    let all : c.loop-number.number ≡ at c.args.file.bytes.now 7 = omega arith in
     record {
       run = k.run;
       decides = done.0;
       law = done.1;
-      first = subst (λ (n : ℕ). FirstOnes g.S.Sample g.S.Stored c.args.bytes.now n (holds k.run)) all k.first;
+      first = subst (λ (n : ℕ). FirstOnes g.S.Sample g.S.Stored c.args.file.bytes.now n (holds k.run)) all k.first;
     }

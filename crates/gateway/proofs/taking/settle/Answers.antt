@@ -16,9 +16,9 @@ unwrap-message-requires g c =
     let before = state g.S.Sample c.args.bay.now in
     let decided = state g.S.Sample c.decide.new.self in
     ok_unless c.accept.result (λ e q.
-        never_misfits before decided (length c.args.work.now) c.requires (five c.unwrap-verdict.result.numbers) e.why (state g.S.Sample c.accept.new.self)
-        (subst (λ (r : Result Verdict Denial). Deals before (Decide (length c.args.work.now)) (delivered r) decided) c.unwrap-verdict.ensures c.decide.ensures.deals)
-        (subst (λ (r : Result ℕ Refused). Deals decided (Accept (five c.unwrap-verdict.result.numbers)) (accepted r) (state g.S.Sample c.accept.new.self)) q c.accept.ensures.deals))
+    never_misfits before decided (length c.args.work.now) c.requires (five c.unwrap-verdict.result.numbers) e.why (state g.S.Sample c.accept.new.self)
+    (subst (λ (r : Result Verdict Denial). Deals before (Decide (length c.args.work.now)) (delivered r) decided) c.unwrap-verdict.ensures c.decide.ensures.deals)
+    (subst (λ (r : Result ℕ Refused). Deals decided (Accept (five c.unwrap-verdict.result.numbers)) (accepted r) (state g.S.Sample c.accept.new.self)) q c.accept.ensures.deals))
 
 pub returns : goal.returns
 returns g c o h l =
