@@ -6,21 +6,23 @@ use denials::Denied;
 use std::alloc::{AllocError, Global};
 use std::fmt;
 
+/// A refusal of one of this crate's calls.
 #[derive(Clone, Copy, PartialEq, Eq, Debug)]
 pub enum Refusal {
-    // the degree has no row in the table
+    /// The degree has no row in the table.
     Degree,
-    // the message is not below 4·N·N
+    /// The message is not below 4·N·N.
     Message,
-    // the memory or the list is not N long
+    /// The memory or the list is not N long.
     Memory,
-    // the symbol at this index, the first such, is above 3
+    /// The symbol at this index, the first such, is above 3.
     Symbol(usize),
-    // no message has these symbols as its word
+    /// No message has these symbols as its word.
     NoWord,
 }
 
 impl Refusal {
+    /// The number by which the refusal is known outside.
     // stays: a variant holds an index, so `as` does not give the number
     pub fn number(self) -> u8
         ensures { result ≡ number self }
@@ -34,6 +36,7 @@ impl Refusal {
         }
     }
 
+    /// The index that the refusal points at, or 0.
     pub fn place(self) -> usize
         ensures { result ≡ place self }
     {
@@ -43,7 +46,7 @@ impl Refusal {
         }
     }
 
-    // The refusal as a line of text.
+    /// The refusal as a line of text.
     pub fn line(self, heap: Global) -> Result<String, AllocError>
         ensures { IfOk result (λ s. string_bytes s ≡ line self) }
     {
