@@ -1,5 +1,5 @@
 // Code books: the traces and places of one degree, filled into the caller's memory.
-ghost use Rattle.std.specs.Prelude.{◌≡◌, ℕ, suc, ◌+◌, ◌*◌, ◌%◌, ◌<◌, ◌≤◌, T, if◌then◌else◌, Ok, Err, length, slice_index};
+ghost use Rattle.std.specs.Prelude.{◌≡◌, ℕ, suc, ◌+◌, ◌*◌, ◌%◌, ◌<◌, ◌≤◌, IsTrue, if◌then◌else◌, Ok, Err, length, slice_index};
 ghost use Rattle.kerdock.specs.Code.{t, place, period, size};
 ghost use Rattle.kerdock.specs.Table.{row_of, known};
 ghost use Rattle.kerdock.specs.Books.{Lawful};
@@ -90,8 +90,8 @@ impl<'a> Traces<'a> {
 /// Makes the book of a degree in the caller's place; refused, it leaves the place as it was.
 pub fn make_book(degree: u8, book: &mut CodeBook) -> Result<(), Refusal>
     ensures answer { result ≡ (if known degree then Ok tt else Err Refusal.Degree) }
-    ensures made { T (known degree) → Lawful (row_of degree) book.new }
-    ensures kept { (T (known degree) → ⊥) → book.new ≡ book.old }
+    ensures made { IsTrue (known degree) → Lawful (row_of degree) book.new }
+    ensures kept { ¬ IsTrue (known degree) → book.new ≡ book.old }
 {
     let row = row_of(degree).ok_or(Refusal::Degree)?;
     book.fill(&row);

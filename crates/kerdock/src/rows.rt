@@ -1,5 +1,5 @@
 // The degree table, as the code reads it.
-ghost use Rattle.std.specs.Prelude.{◌≡◌, ℕ, ◌*◌, ◌%◌, ◌<◌, ◌≤◌, T, length, MatchOption, slice_index};
+ghost use Rattle.std.specs.Prelude.{◌≡◌, ℕ, ◌*◌, ◌%◌, ◌<◌, ◌≤◌, IsTrue, length, MatchOption, slice_index};
 ghost use Rattle.kerdock.specs.Code.{t, period, messages, sum_to};
 ghost use Rattle.kerdock.specs.Table.{row_of, known};
 ghost use Rattle.kerdock.specs.Rows.{RowIs};
@@ -54,7 +54,7 @@ impl TableRow {
 
 #[tactic(auto, unfolding(crate::specs::Table::known, crate::specs::Table::row_of))]
 pub(crate) fn row_of(degree: u8) -> Option<TableRow>
-    ensures { MatchOption result (T (known degree) → ⊥) (λ row. row.degree ≡ degree) }
+    ensures { MatchOption result (¬ IsTrue (known degree)) (λ row. row.degree ≡ degree) }
 {
     match degree {
         3 => Some(TableRow {
