@@ -30,20 +30,6 @@ loop-u-preserved c =
           z.half b c.loop-u-test.true (omega arith) c.unit_row-unit.ensures.is c.sum_of.ensures c.loop-u.invariant.led;
     }
 
-pub loop-k-preserved : goal.loop-k-preserved
-loop-k-preserved c =
-    let t = c.loop-k.self in
-    let k = c.loop-k.k in
-    let d = c.loop-k.invariant.degree in
-    let b : k < t.degree = omega arith in
-    let z = sizes t.degree k t.seven b in
-    record {
-      degree = c.loop-u.invariant.degree ∙ d;
-      at = c.loop-u.invariant.at ∙ c.loop-k.invariant.at;
-      led = led_moved c.args.book.now t.degree c.loop-u.self.degree _ (2 ^ (k + 1)) t.at c.loop-u.self.at c.loop-u.self.leaders
-          c.loop-u.invariant.degree c.loop-u.invariant.at (omega arith) c.loop-u.invariant.led;
-    }
-
 pub returns-clause-holds : goal.returns-clause-holds
 returns-clause-holds c row sound deg lawful =
     let t = c.loop-k.self in
