@@ -1,7 +1,7 @@
-use Rattle.std.proofs.Common.{◌≡◌, ℕ, ◌+◌, ◌*◌, ◌%◌, ◌^◌, ◌<◌, List, [], get_or, sym, refl, ap, ◌∙◌, arith}
+use Rattle.std.proofs.Common.{◌≡◌, ℕ, ◌*◌, ◌%◌, ◌^◌, ◌<◌, List, [], get_or, sym, refl, ap, ◌∙◌, arith}
 use Rattle.kerdock.specs.Code.{size, symbol, place}
 use Rattle.decoder.specs.Cosets.{message}
-use Rattle.decoder.proofs.Leaders.{sizes, led_moved, led_none, led_more}
+use Rattle.decoder.proofs.Leaders.{sizes, led_none, led_more}
 use Rattle.decoder.proofs.Powers.{shifted}
 use Rattle.decoder.proofs.Writes.{zeros_below, write_keeps}
 use Rattle.decoder.proofs.tables.Tables.fill.Goals as goal
