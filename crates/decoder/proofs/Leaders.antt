@@ -28,11 +28,6 @@ sizes degree k seven b =
     let up = pow-suc 2 k in
     record { next = rw (add-one k) (omega arith); half = shifted k (omega arith); light = omega arith }
 
--- the same rows, of an equal degree, equal indices and an equal bound
-pub led_moved : (book : CodeBook) (degree degree' bound bound' : ℕ) (at at' : List ℕ) (rows : List (List ℕ)) → degree' ≡ degree → at' ≡ at → bound' ≡ bound →
-    Led book degree at bound rows → Led book degree' at' bound' rows
-led_moved book degree degree' bound bound' at at' rows d a b led = rw (d, a, b) led
-
 module _ (book : CodeBook) (degree : ℕ) (at : List ℕ) where
   -- a first row of zeros is the leader of coset 0
   pub led_none : (m : ℕ) (rows : List (List ℕ)) → 0 < length rows → Led book degree at 1 (set rows 0 (replicate m 0))

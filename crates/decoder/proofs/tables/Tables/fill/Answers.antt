@@ -1,7 +1,7 @@
-use Rattle.std.proofs.Common.{◌≡◌, ℕ, ◌+◌, ◌*◌, ◌%◌, ◌^◌, ◌<◌, List, [], get_or, sym, refl, ap, ◌∙◌, arith}
+use Rattle.std.proofs.Common.{◌≡◌, ℕ, ◌*◌, ◌%◌, ◌^◌, ◌<◌, List, [], get_or, sym, refl, ap, ◌∙◌, arith}
 use Rattle.kerdock.specs.Code.{size, symbol, place}
 use Rattle.decoder.specs.Cosets.{message}
-use Rattle.decoder.proofs.Leaders.{sizes, led_moved, led_none, led_more}
+use Rattle.decoder.proofs.Leaders.{sizes, led_none, led_more}
 use Rattle.decoder.proofs.Powers.{shifted}
 use Rattle.decoder.proofs.Writes.{zeros_below, write_keeps}
 use Rattle.decoder.proofs.tables.Tables.fill.Goals as goal
@@ -28,20 +28,6 @@ loop-u-preserved c =
       at = c.loop-u.invariant.at;
       led = led_more c.args.book.now t.degree t.at k c.loop-u.u (1 * 2 ^ k % 18446744073709551616) c.unit_row-unit.result c.sum_of.result c.loop-u.self.leaders
           z.half b c.loop-u-test.true (omega arith) c.unit_row-unit.ensures.is c.sum_of.ensures c.loop-u.invariant.led;
-    }
-
-pub loop-k-preserved : goal.loop-k-preserved
-loop-k-preserved c =
-    let t = c.loop-k.self in
-    let k = c.loop-k.k in
-    let d = c.loop-k.invariant.degree in
-    let b : k < t.degree = omega arith in
-    let z = sizes t.degree k t.seven b in
-    record {
-      degree = c.loop-u.invariant.degree ∙ d;
-      at = c.loop-u.invariant.at ∙ c.loop-k.invariant.at;
-      led = led_moved c.args.book.now t.degree c.loop-u.self.degree _ (2 ^ (k + 1)) t.at c.loop-u.self.at c.loop-u.self.leaders
-          c.loop-u.invariant.degree c.loop-u.invariant.at (omega arith) c.loop-u.invariant.led;
     }
 
 pub returns-clause-holds : goal.returns-clause-holds
