@@ -1,6 +1,6 @@
 //! Receptions as the bytes of a file.
-ghost use Rattle.std.specs.Prelude.{◌≡◌, ℕ, ◌+◌, ◌*◌, ◌/◌, ◌%◌, ◌^◌, ◌<◌, ◌≤◌, ◌++◌, length, drop, MatchOption, slice_set, unsigned_abs};
-ghost use Rattle.reception_file.specs.Layout.{place_of, raw, allowed, head_bytes};
+ghost use Rattle.std.specs.Prelude.{◌≡◌, ℕ, ◌+◌, ◌*◌, ◌/◌, ◌%◌, ◌^◌, ◌<◌, ◌≤◌, length, slice_set, unsigned_abs};
+ghost use Rattle.reception_file.specs.Layout.{place_of, raw, allowed};
 ghost use Rattle.reception_file.specs.Check.{Quiet};
 ghost use Rattle.reception_file.specs.Write.{part_of, Weighed, Writes};
 ghost use Rattle.reception_file.specs.Laws.{ComesBack};
@@ -18,6 +18,7 @@ fn check_samples<S: Stored>(samples: &[S]) -> Result<(), Refusal>
 {
     let parts = S::parts();
     for (i, sample) in samples.iter().enumerate() {
+        // stays: a sample's parts are no slice, only numbered
         for k in 0..parts {
             if sample.part_of(k).unsigned_abs() > LARGEST {
                 return Err(Refusal::Part(8 + 2 * (i * parts + k)));
@@ -57,6 +58,7 @@ fn write_parts<S: Stored>(samples: &[S], bytes: &mut [u8])
 {
     let parts = S::parts();
     for (i, sample) in samples.iter().enumerate() {
+        // stays: a sample's parts are no slice, and `chunks_exact_mut` tells a proof nothing of what it leaves in the bytes
         for k in 0..parts {
             write_part(i * parts + k, sample.part_of(k), bytes);
         }
