@@ -47,6 +47,7 @@ fn write_part(number: usize, part: i32, bytes: &mut [u8])
     ensures { bytes.new ≡ slice_set (slice_set bytes.old (place_of number) (raw part / 256)) (place_of number + 1) (raw part % 256) }
 {
     let place = 8 + 2 * number;
+    // stays: the part fits, so `as` loses nothing, and `try_from` would answer an error that cannot come
     bytes[place..place + 2].copy_from_slice(&(part as i16).to_be_bytes());
 }
 
