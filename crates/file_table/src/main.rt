@@ -10,13 +10,12 @@ use samples::{Complex, Phase, Sample};
 use samples_of::{fill, put};
 use std::io;
 
-/// What a table is made of: the file's degree and count, and how many samples a reception has.
+/// What a table is made of beside its samples: the names, and the file's degree and count.
 struct Case {
     name: &'static str,
     as_other: &'static str,
     degree: u8,
     count: u8,
-    reception: usize,
     /// The part of sample 1 that is 32,767.
     largest: usize,
     /// Values that are not allowed, for the first part and for the last.
@@ -45,21 +44,27 @@ fn say_write(rt: &HostRuntime, answer: Result<usize, Refusal>) -> io::Result<()>
     }
 }
 
-/// Ends a line with the check of a file in which these bytes are overwritten.
-fn say_changed(rt: &HostRuntime, file: &[u8], place: usize, by: &[u8]) -> io::Result<()> {
-    let mut changed = file.to_vec(rt.alloc())?;
+/// Ends a line with the check of a file in which these bytes are overwritten; the last of the bytes stands behind the file.
+fn say_changed<const N: usize>(
+    rt: &HostRuntime,
+    bytes: &[u8; N],
+    place: usize,
+    by: &[u8],
+) -> io::Result<()>
+    requires { 8 < N }
+{
+    let mut changed = *bytes;
     for (byte, new) in changed.iter_mut().skip(place).zip(by) {
         *byte = *new;
     }
-    say_check(rt, &changed)
+    say_check(rt, &changed[..N - 1])
 }
 
 /// Every refusal of the check; the last of the bytes stands behind the file.
-fn damage(rt: &HostRuntime, name: &str, bytes: &[u8]) -> io::Result<()>
-    requires { 8 < length bytes.now }
+fn damage<const N: usize>(rt: &HostRuntime, name: &str, bytes: &[u8; N]) -> io::Result<()>
+    requires { 8 < N }
 {
-    let size = bytes.len() - 1;
-    let file = &bytes[..size];
+    let size = N - 1;
     for cut in [0, 7, 8, size - 1, size, size + 1] {
         print!(rt; "{name}, {cut} bytes")?;
         say_check(rt, &bytes[..cut])?;
@@ -81,11 +86,11 @@ fn damage(rt: &HostRuntime, name: &str, bytes: &[u8]) -> io::Result<()>
     ];
     for (place, value) in wrong {
         print!(rt; "{name}, byte {place} is {value}")?;
-        say_changed(rt, file, place, &[value])?;
+        say_changed(rt, bytes, place, &[value])?;
     }
     for place in [8, size - 2] {
         print!(rt; "{name}, a part of -32768 at {place}")?;
-        say_changed(rt, file, place, &i16::MIN.to_be_bytes())?;
+        say_changed(rt, bytes, place, &i16::MIN.to_be_bytes())?;
     }
     Ok(())
 }
@@ -149,26 +154,28 @@ fn picking<S: Stored + PartialEq, O: Stored + PartialEq>(
     case: &Case,
     file: &[u8],
     samples: &[S],
+    memory: &mut [S],
+    other: &mut [O],
 ) -> io::Result<()> {
     let name = case.name;
-    let mut memory = vec![in rt.alloc(); S::zero(); case.reception]?;
-    for reception in 0..=usize::from(case.count) {
-        say_pick(rt, name, file, reception, &mut memory, samples)?;
+    for number in 0..=usize::from(case.count) {
+        say_pick(rt, name, file, number, memory, samples)?;
     }
-    say_pick(rt, name, file, usize::MAX, &mut memory, samples)?;
+    say_pick(rt, name, file, usize::MAX, memory, samples)?;
     say_pick(rt, "no memory", file, 0, &mut memory[..0], samples)?;
-    let mut other = vec![in rt.alloc(); O::zero(); case.reception]?;
-    say_pick(rt, case.as_other, file, 0, &mut other, &[])
+    say_pick(rt, case.as_other, file, 0, other, &[])
 }
 
 /// All rows of one kind, of which picking as the other is one; the last of the bytes stands behind the file.
-fn table<S: Stored + PartialEq, O: Stored + PartialEq>(
+fn table<S: Stored + PartialEq, O: Stored + PartialEq, const N: usize>(
     rt: &HostRuntime,
     case: &Case,
     samples: &mut [S],
-    bytes: &mut [u8],
+    bytes: &mut [u8; N],
+    memory: &mut [S],
+    other: &mut [O],
 ) -> io::Result<()>
-    requires { 8 < length bytes.old }
+    requires { 8 < N }
 {
     let Case {
         name,
@@ -182,7 +189,7 @@ fn table<S: Stored + PartialEq, O: Stored + PartialEq>(
     put(samples.get_mut(1), case.largest, 32767);
     writing(rt, case, samples, bytes)?;
     damage(rt, name, bytes)?;
-    picking::<S, O>(rt, case, &bytes[..bytes.len() - 1], samples)?;
+    picking(rt, case, &bytes[..N - 1], samples, memory, other)?;
     put(samples.first_mut(), 0, first);
     print!(rt; "{name}, first part {first}")?;
     say_write(rt, write(degree, count, samples, bytes))?;
@@ -197,7 +204,6 @@ const COMPLEX: Case = Case {
     as_other: "complex as phase",
     degree: 3,
     count: 3,
-    reception: 8,
     largest: 1,
     first: 32768,
     last: -32768,
@@ -208,13 +214,26 @@ const PHASE: Case = Case {
     as_other: "phase as complex",
     degree: 5,
     count: 2,
-    reception: 32,
     largest: 2,
     first: -32768,
     last: 32768,
 };
 
 fn main(rt: HostRuntime) -> io::Result<()> {
-    table::<Complex, Phase>(&rt, &COMPLEX, &mut [Complex::zero(); 24], &mut [0xEE; 105])?;
-    table::<Phase, Complex>(&rt, &PHASE, &mut [Phase::zero(); 64], &mut [0xEE; 521])
+    table(
+        &rt,
+        &COMPLEX,
+        &mut [Complex::zero(); 24],
+        &mut [0xEE; 105],
+        &mut [Complex::zero(); 8],
+        &mut [Phase::zero(); 8],
+    )?;
+    table(
+        &rt,
+        &PHASE,
+        &mut [Phase::zero(); 64],
+        &mut [0xEE; 521],
+        &mut [Phase::zero(); 32],
+        &mut [Complex::zero(); 32],
+    )
 }

@@ -6,9 +6,6 @@ use lib.Seq.{drop-append-add}
 use Rattle.reception_file.specs.Layout.{at, total, place_of, raw, head_bytes, Lays}
 use Rattle.reception_file.specs.Partly.{Laid}
 
-pub none : (part : ℕ → ℤ) (bs : List ℕ) → Laid part 0 bs bs
-none part bs = record { long = refl; high = λ k h. absurd (omega arith); low = λ k h. absurd (omega arith); front = refl; behind = refl }
-
 -- two elements put in the place of two are the two set
 pub put_pair : (p : ℕ) (xs : List ℕ) (a b : ℕ) → p + 1 < length xs → put_mid p 2 xs (a ∷ b ∷ []) ≡ set (set xs p a) (p + 1) b
 put_pair zero [] a b h = absurd (omega arith)

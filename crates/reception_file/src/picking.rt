@@ -1,5 +1,5 @@
 //! One reception out of a file.
-ghost use Rattle.std.specs.Prelude.{◌≡◌, ℕ, ◌+◌, ◌*◌, ◌<◌, ◌≤◌, length};
+ghost use Rattle.std.specs.Prelude.{◌≡◌, ℕ, ◌*◌, ◌<◌, length};
 ghost use Rattle.reception_file.specs.Pairs.{part_in};
 ghost use Rattle.reception_file.specs.Pick.{Reads, PicksFrom, Picks};
 ghost use Rattle.reception_file.specs.Laws.{WrittenAgain};
@@ -26,6 +26,7 @@ fn read_samples<S: Stored>(parts: &[[u8; 2]], memory: &mut [S])
     requires { length parts.now ≡ length memory.old * S.Stored.width }
     ensures { Reads S.Sample S.Stored.own parts.now memory.new }
 {
+    // stays: zipped with `chunks_exact` in place of the index, the loop tells a proof nothing of what it leaves in the memory
     for (i, sample) in memory.iter_mut().enumerate() {
         let first = i * S::parts();
         *sample = sample_from(&parts[first..first + S::parts()]);

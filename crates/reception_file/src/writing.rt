@@ -1,6 +1,6 @@
 //! Receptions as the bytes of a file.
-ghost use Rattle.std.specs.Prelude.{◌≡◌, ℕ, ◌+◌, ◌*◌, ◌/◌, ◌%◌, ◌^◌, ◌<◌, ◌≤◌, ◌++◌, length, drop, MatchOption, slice_set, unsigned_abs};
-ghost use Rattle.reception_file.specs.Layout.{place_of, raw, allowed, head_bytes};
+ghost use Rattle.std.specs.Prelude.{◌≡◌, ℕ, ◌+◌, ◌*◌, ◌/◌, ◌%◌, ◌^◌, ◌<◌, ◌≤◌, length, slice_set, unsigned_abs};
+ghost use Rattle.reception_file.specs.Layout.{place_of, raw, allowed};
 ghost use Rattle.reception_file.specs.Check.{Quiet};
 ghost use Rattle.reception_file.specs.Write.{part_of, Weighed, Writes};
 ghost use Rattle.reception_file.specs.Laws.{ComesBack};
@@ -18,6 +18,7 @@ fn check_samples<S: Stored>(samples: &[S]) -> Result<(), Refusal>
 {
     let parts = S::parts();
     for (i, sample) in samples.iter().enumerate() {
+        // stays: a sample's parts are no slice, only numbered
         for k in 0..parts {
             if sample.part_of(k).unsigned_abs() > LARGEST {
                 return Err(Refusal::Part(8 + 2 * (i * parts + k)));
@@ -46,6 +47,7 @@ fn write_part(number: usize, part: i32, bytes: &mut [u8])
     ensures { bytes.new ≡ slice_set (slice_set bytes.old (place_of number) (raw part / 256)) (place_of number + 1) (raw part % 256) }
 {
     let place = 8 + 2 * number;
+    // stays: the part fits, so `as` loses nothing, and `try_from` would answer an error that cannot come
     bytes[place..place + 2].copy_from_slice(&(part as i16).to_be_bytes());
 }
 
@@ -57,6 +59,7 @@ fn write_parts<S: Stored>(samples: &[S], bytes: &mut [u8])
 {
     let parts = S::parts();
     for (i, sample) in samples.iter().enumerate() {
+        // stays: a sample's parts are no slice, and `chunks_exact_mut` tells a proof nothing of what it leaves in the bytes
         for k in 0..parts {
             write_part(i * parts + k, sample.part_of(k), bytes);
         }

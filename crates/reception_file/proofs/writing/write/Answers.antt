@@ -8,13 +8,10 @@ use Rattle.reception_file.proofs.Laying.{file, behind}
 use Rattle.reception_file.proofs.Returning.{returned}
 use Rattle.reception_file.proofs.writing.write.Goals as goal
 
-pub returns-in_err-head : goal.returns-in_err-head
-returns-in_err-head g c =
+pub returns-in_err-head-clause-writes : goal.returns-in_err-head-clause-writes
+returns-in_err-head-clause-writes g c =
     let p = err_from_is_err_and c.from_residual.result c.from_residual.ensures.1 in
-    record {
-      writes = rw (p.1, p.2) (c.in_err-head.ensures (length c.args.bytes.now), search rules);
-      comes_back = rw p.1 tt;
-    }
+    rw (p.1, p.2) (c.in_err-head.ensures (length c.args.bytes.now), search rules)
 
 pub returns : goal.returns
 returns g c =
