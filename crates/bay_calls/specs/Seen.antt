@@ -8,8 +8,7 @@
 --   state      the same of a bay
 --   denies     a denial, as an answer
 --   counted    the answer of a call that counts receptions
---   decided    the answer of a decision, by its numbers
---   delivered  the same by the verdict that it hands out
+--   delivered  the answer of a decision, by the verdict that it hands out
 --   accepted   the answer to a verdict that is accepted
 --   let_go     the answer to a verdict that is repeated or dropped
 --   IfDone     what holds where a call is not denied
@@ -73,10 +72,6 @@ denies e = Denied (number e) (place e)
 abbrev pub counted : Result ℕ Denial → Answer
 counted (Ok n) = Counted n
 counted (Err e) = denies e
-
-abbrev pub decided : Result Numbers Denial → Answer
-decided (Ok n) = Delivered (five n)
-decided (Err e) = denies e
 
 abbrev pub delivered : Result Token Denial → Answer
 delivered (Ok v) = Delivered (five v.numbers)

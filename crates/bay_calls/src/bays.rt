@@ -15,8 +15,7 @@ use samples::Sample;
 
 /// A bay of any one kind of samples: the sums in memory that it is lent, beside the code book of its degree and its plain
 /// numbers.
-// stays: what the calls promise alike, as that a denied one changes nothing, is of the bay before and after, and so no
-// ghost field of one bay says it
+// stays: what the calls promise alike is of the bay before and after, so no ghost field of one bay says it
 #[derive(Drop)]
 pub struct Bay<'a, S> {
     pub(crate) sums: &'a mut [S],

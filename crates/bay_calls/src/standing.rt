@@ -13,6 +13,7 @@ pub enum Stage {
 /// of the verdict that is out.
 #[derive(Clone, Copy, PartialEq, Eq, Debug)]
 pub struct Standing {
+    // stays: a shut bay keeps the number that it was opened with, whichever it was
     pub degree: u8,
     pub held: u8,
     pub stage: Stage,

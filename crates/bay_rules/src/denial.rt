@@ -28,6 +28,7 @@ impl Denial {
     pub fn number(self) -> u8
         ensures { result ≡ number self }
     {
+        // stays: a variant holds an index, so `as` does not give the number
         match self {
             Denial::Shut => 1,
             Denial::VerdictOut => 2,

@@ -4,6 +4,7 @@
 /// over the best other word.
 #[derive(Clone, Copy, PartialEq, Eq, Debug)]
 pub struct Numbers {
+    // stays: the numbers that a list of dealings answers with are any numbers
     pub degree: u8,
     pub held: u8,
     pub message: u32,
