@@ -1,5 +1,5 @@
 -- What the tests of an opening settle: whether the bay is shut, and the state and the book that it starts from.
-use Rattle.std.proofs.Common.{◌≡◌, ℕ, true, false, cond, T, length, get_or, Some, None, sym, refl, subst, arith}
+use Rattle.std.proofs.Common.{◌≡◌, ℕ, true, false, cond, length, get_or, Some, None, refl, arith}
 use Rattle.kerdock.specs.Code.{size}
 use Rattle.kerdock.specs.Table.{row_of, known}
 use Rattle.kerdock.specs.Books.{Lawful as LawfulBook}
@@ -24,12 +24,12 @@ opens_shut o book xs e empty = record { plainly = plainly_shut o o.degree xs e; 
 
 -- a bay that opens: its sums are zeros, one for each index
 pub opens : (o : Opening) (k : ℕ) (book : CodeBook) (xs ys : Reception) → Some k ≡ cond (known o.degree) (Some (size (row_of o.degree))) None →
-    o.memory ≡ k → length xs ≡ k → Zeroed xs ys → (T (known o.degree) → LawfulBook (row_of o.degree) book) →
+    o.memory ≡ k → length xs ≡ k → Zeroed xs ys → (known o.degree ≡ true → LawfulBook (row_of o.degree) book) →
     Opens o (record { closed = false; degree = o.degree; held = 0; noted = None; book = book; sums = ys })
 opens o k book xs ys e same long z lawful = record {
   plainly = plainly_opens o k xs ys e same long z;
   degree = refl;
-  book = λ _. lawful (subst T (sym (some_length (known o.degree) k _ e).0) tt);
+  book = λ _. lawful (some_length (known o.degree) k _ e).0;
   blank = λ u. never u;
 }
   where
