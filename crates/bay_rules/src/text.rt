@@ -8,14 +8,12 @@ use crate::numbers::Numbers;
 use denials::Denied;
 use std::fmt;
 
+// stays: each type has a Display of its own; the words stand once, in that of `Denied`
 impl fmt::Display for Denial {
     ghost output = { λ e. Some (line e) };
 
     fn fmt<W: fmt::Write>(&self, f: &mut fmt::Formatter<W>) -> fmt::Result {
-        let number = self.number();
-        let place = self.place();
-        let told = Denied { number, place };
-        write!(f, "{told}")
+        Denied::new(self.number(), self.place()).fmt(f)
     }
 }
 

@@ -1,7 +1,7 @@
 //! How a refusal is told outside, whichever call refuses: by its number, and by the place that it speaks of.
 #![tactic(auto)]
 
-ghost use Rattle.std.specs.Prelude.{Some};
+ghost use Rattle.std.specs.Prelude.{◌≡◌, Some};
 ghost use Rattle.denials.specs.Denied.{told};
 
 use std::fmt;
@@ -11,6 +11,15 @@ use std::fmt;
 pub struct Denied {
     pub number: u8,
     pub place: usize,
+}
+
+impl Denied {
+    pub fn new(number: u8, place: usize) -> Denied
+        ensures number { result.number ≡ number }
+        ensures place { result.place ≡ place }
+    {
+        Denied { number, place }
+    }
 }
 
 impl fmt::Display for Denied {

@@ -6,13 +6,11 @@ use crate::refusal::Refusal;
 use denials::Denied;
 use std::fmt;
 
+// stays: each type has a Display of its own; the words stand once, in that of `Denied`
 impl fmt::Display for Refusal {
     ghost output = { λ e. Some (line e) };
 
     fn fmt<W: fmt::Write>(&self, f: &mut fmt::Formatter<W>) -> fmt::Result {
-        let number = self.number();
-        let place = self.place();
-        let told = Denied { number, place };
-        write!(f, "{told}")
+        Denied::new(self.number(), self.place()).fmt(f)
     }
 }
