@@ -1,4 +1,5 @@
 -- The rows of a table of leaders, as the doubling loop builds them.
+--   Led    the rows that stand so far
 --   Sizes  the sizes at one turn
 use Rattle.std.proofs.Common.{◌≡◌, ℕ, ◌+◌, ◌*◌, ◌%◌, ◌^◌, ◌<◌, ◌≤◌, ◌≢◌, List, [], length, get_or, set, replicate, sym, ap, ◌∙◌, ap₂, inl, inr, pow-suc, add-one, arith, pow_mono, get_or-set_other, get_or-set_same}
 use native.Mathlib.Nat.{div-eq_of_lt}
@@ -9,10 +10,14 @@ use Rattle.kerdock.specs.Books.{Lawful}
 use Rattle.kerdock.specs.declared.books.CodeBook.{CodeBook}
 use Rattle.kerdock.proofs.Fills.{all_zeros}
 use Rattle.decoder.specs.Cosets.{message, bit}
-use Rattle.decoder.specs.Rows.{Led}
 use Rattle.decoder.proofs.Cosets.{cosets}
 use Rattle.decoder.proofs.UnitRows.{none_led}
 use Rattle.decoder.proofs.Powers.{shifted}
+
+-- of a lawful book, the rows below a bound hold the leaders, by place; `at` is the index of each place
+pub record Led (book : CodeBook) (degree : ℕ) (at : List ℕ) (bound : ℕ) (rows : List (List ℕ)) : Type 0 where
+  pub is : (row : Row) → Sound row → row.degree ≡ degree → Lawful row book → (u p : ℕ) → u < bound → p < 2 ^ degree →
+      get_or (get_or rows u []) p 0 ≡ symbol row (message row 0 u 0) (get_or at p 0)
 
 -- the turn at bit k
 pub record Sizes (degree k : ℕ) : Type 0 where

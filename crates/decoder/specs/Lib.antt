@@ -4,7 +4,6 @@ pub mod Laws
 pub mod Cosets
 pub mod Visits
 pub mod Turnbacks
-pub mod Rows
 pub mod Leaders
 pub mod Tables
 pub mod Search

@@ -1,6 +1,6 @@
 -- The degree and the indices stay, and of a lawful book the rows made so far hold their leaders.
 use Rattle.std.proofs.Common.{◌≡◌, ◌+◌, ◌^◌}
-use Rattle.decoder.specs.Rows.{Led}
+use Rattle.decoder.proofs.Leaders.{Led}
 use Rattle.decoder.proofs.tables.Tables.fill.Given as goal
 
 abbrev pub invariant-loop-k : goal.invariant-loop-k
