@@ -1,5 +1,6 @@
 -- One dealing of a list more: the run that the bay has lived, the answers, the work memory, and the sums at the end.
 use Rattle.std.proofs.Common.{◌≡◌, ℕ, ◌+◌, ◌<◌, ◌≤◌, true, false, ltb, ◌≢◌, List, Ok, Err, length, get_or, set, sym, refl, ap, ◌∙◌, subst, arith, length-set, get_or-set_other, get_or-set_same, ltb-false, ltb-true}
+use Rattle.std.specs.Prelude.{OnErr}
 use Rattle.samples.specs.declared.sample.Sample.{Ghosts}
 use Rattle.kerdock.specs.Code.{size}
 use Rattle.kerdock.specs.Table.{row_of}
@@ -16,14 +17,14 @@ use Rattle.bay.specs.Rules.{Opening, Run, shut, holds}
 use Rattle.bay.specs.Rules.Answer.{Denied as denying}
 use Rattle.bay_rules.specs.Lived.{Lived, Deals}
 use Rattle.bay.specs.Replay.{made}
-use Rattle.bay_calls.specs.Seen.{state, closes, IfDenied}
+use Rattle.bay_calls.specs.Seen.{state, closes}
 use Rattle.bay_calls.specs.Played.{Written, meant, told, handed, written, Beyond, delivers, Wiped, WorkAfter, WorkLeft, SumsLeft}
 use Rattle.bay_calls.proofs.Means.{as_many}
 use Rattle.bay_rules.proofs.Replaying.{made_more}
 use Rattle.bay.proofs.ShutRuns.{denied_by_one}
 
 -- an answer that denies by 1 is a denial
-is_denial : (a : Written) (P : Type 0) → told a ≡ denying 1 0 → IfDenied a P → P
+is_denial : (a : Written) (P : Type 0) → told a ≡ denying 1 0 → OnErr a P → P
 is_denial (Ok (Counted n)) P q p = let z : ◌≡◌ {A = ℕ} 0 1 = cc in absurd (omega arith)
 is_denial (Ok (Delivered n)) P q p = let z : ◌≡◌ {A = ℕ} 0 1 = cc in absurd (omega arith)
 is_denial (Ok (Message n)) P q p = let z : ◌≡◌ {A = ℕ} 0 1 = cc in absurd (omega arith)
@@ -33,7 +34,7 @@ is_denial (Err e) P q p = p
 pub turn : {S : Type 0} (m : Ghosts S) (pool : List S) (w w' : ℕ) (ds : List Listed) (ans : List Written) (i : ℕ) (a : Written) (o : Opening) (b₀ b b' : Bay S) →
     w' ≡ w → i < length ans →
     Lived o (made (handed m pool w ds) (written ans) i) (state m b) × (shut o ≡ true → b ≡ b₀) →
-    Deals (state m b) (meant m pool w' (get_or ds i (Take 0 0))) (told a) (state m b') → IfDenied a (b' ≡ b) →
+    Deals (state m b) (meant m pool w' (get_or ds i (Take 0 0))) (told a) (state m b') → OnErr a (b' ≡ b) →
     Lived o (made (handed m pool w ds) (written (set ans i a)) (i + 1)) (state m b') × (shut o ≡ true → b' ≡ b₀)
 turn m pool w w' ds ans i a o b₀ b b' same lt l d still =
     let d' = subst (λ (n : ℕ). Deals (state m b) (meant m pool n (get_or ds i (Take 0 0))) (told a) (state m b')) same d in

@@ -11,8 +11,6 @@
 --   delivered  the answer of a decision, by the verdict that it hands out
 --   accepted   the answer to a verdict that is accepted
 --   let_go     the answer to a verdict that is repeated or dropped
---   IfDone     what holds where a call is not denied
---   IfDenied   what holds where it is
 --   Worked     work memory after a decision: zeros, or as it was where the decision is denied
 --   Back       a verdict that is not taken comes back in hand
 use Rattle.std.specs.Prelude.{◌≡◌, ℕ, Bool, true, false, List, Some, None, Ok, Err, Option, Result}
@@ -84,14 +82,6 @@ accepted (Err e) = denies e.why
 abbrev pub let_go : Result ℕ Refused → Answer
 let_go (Ok n) = Counted n
 let_go (Err e) = denies e.why
-
-abbrev pub IfDone : {A E : Type 0} → Result A E → Type 0 → Type 0
-IfDone (Ok a) P = P
-IfDone (Err e) P = Unit {0}
-
-abbrev pub IfDenied : {A E : Type 0} → Result A E → Type 0 → Type 0
-IfDenied (Ok a) P = Unit {0}
-IfDenied (Err e) P = P
 
 abbrev pub Worked : {S A E : Type 0} → Ghosts S → Result A E → List S → List S → Type 0
 Worked m (Ok a) before after = Zeros m before after

@@ -1,11 +1,11 @@
 //! The three answers to a verdict.
-ghost use Rattle.std.specs.Prelude.{◌≡◌};
+ghost use Rattle.std.specs.Prelude.{◌≡◌, OnOk, OnErr};
 ghost use Rattle.decoder.specs.Search.{Zeros};
 ghost use Rattle.bay.specs.Rules.Dealing.{Accept, Repeat};
 ghost use Rattle.bay.specs.Rules.Dealing.{Drop as Dropping};
 ghost use Rattle.bay_rules.specs.Lived.{Deals};
 ghost use Rattle.bay_rules.specs.Steps.{Steps};
-ghost use Rattle.bay_calls.specs.Seen.{five, state, accepted, let_go, IfDone, IfDenied, Back};
+ghost use Rattle.bay_calls.specs.Seen.{five, state, accepted, let_go, Back};
 ghost use Rattle.bay_calls.specs.Admission.{Answered};
 
 use crate::admission::Call;
@@ -33,8 +33,8 @@ impl<'a, S: Sample> Bay<'a, S> {
     pub fn accept(&mut self, verdict: Verdict) -> Result<u32, Refused>
         ensures steps { Steps (state S.Sample self.old) (Accept (five verdict.numbers)) (accepted result) (state S.Sample self.new) }
         ensures deals { Deals (state S.Sample self.old) (Accept (five verdict.numbers)) (accepted result) (state S.Sample self.new) }
-        ensures zeros { IfDone result (Zeros S.Sample self.old.sums.now self.new.sums.now) }
-        ensures unmoved { IfDenied result (self.new ≡ self.old) }
+        ensures zeros { OnOk result (Zeros S.Sample self.old.sums.now self.new.sums.now) }
+        ensures unmoved { OnErr result (self.new ≡ self.old) }
         ensures back { Back verdict result }
         ensures lent { self.new.sums.ghost_name ≡ self.old.sums.ghost_name }
     {
@@ -48,7 +48,7 @@ impl<'a, S: Sample> Bay<'a, S> {
         ensures steps { Steps (state S.Sample self.old) (Repeat (five verdict.numbers)) (let_go result) (state S.Sample self.new) }
         ensures deals { Deals (state S.Sample self.old) (Repeat (five verdict.numbers)) (let_go result) (state S.Sample self.new) }
         ensures kept { self.new.sums.now ≡ self.old.sums.now }
-        ensures unmoved { IfDenied result (self.new ≡ self.old) }
+        ensures unmoved { OnErr result (self.new ≡ self.old) }
         ensures back { Back verdict result }
         ensures lent { self.new.sums.ghost_name ≡ self.old.sums.ghost_name }
     {
@@ -61,8 +61,8 @@ impl<'a, S: Sample> Bay<'a, S> {
     pub fn drop(&mut self, verdict: Verdict) -> Result<u8, Refused>
         ensures steps { Steps (state S.Sample self.old) (Dropping (five verdict.numbers)) (let_go result) (state S.Sample self.new) }
         ensures deals { Deals (state S.Sample self.old) (Dropping (five verdict.numbers)) (let_go result) (state S.Sample self.new) }
-        ensures zeros { IfDone result (Zeros S.Sample self.old.sums.now self.new.sums.now) }
-        ensures unmoved { IfDenied result (self.new ≡ self.old) }
+        ensures zeros { OnOk result (Zeros S.Sample self.old.sums.now self.new.sums.now) }
+        ensures unmoved { OnErr result (self.new ≡ self.old) }
         ensures back { Back verdict result }
         ensures lent { self.new.sums.ghost_name ≡ self.old.sums.ghost_name }
     {

@@ -24,6 +24,7 @@ pub struct Bay<'a, S> {
 }
 
 impl<'a, S: Sample> Bay<'a, S> {
+    // stays: any degree can be handed in, so that a bay can open shut on it
     /// Opens a bay on a degree and memory for its sums. Where the degree is not in the table, or the memory does not have
     /// one sample for each index, the bay is shut and nothing is written; otherwise the sums are zeros and it gathers.
     pub fn open(degree: u8, memory: &'a mut [S]) -> Bay<'a, S>

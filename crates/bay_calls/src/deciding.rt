@@ -1,10 +1,10 @@
 //! The decision of a bay.
-ghost use Rattle.std.specs.Prelude.{◌≡◌, length};
+ghost use Rattle.std.specs.Prelude.{◌≡◌, length, OnErr};
 ghost use Rattle.decoder.specs.Search.{Searched};
 ghost use Rattle.bay.specs.Rules.Dealing.{Decide};
 ghost use Rattle.bay_rules.specs.Lived.{Deals, OnlyTheScore};
 ghost use Rattle.bay_rules.specs.Steps.{Steps};
-ghost use Rattle.bay_calls.specs.Seen.{state, delivered, IfDenied, Worked};
+ghost use Rattle.bay_calls.specs.Seen.{state, delivered, Worked};
 
 use crate::admission::Call;
 use crate::bays::Bay;
@@ -29,7 +29,7 @@ impl<'a, S: Sample> Bay<'a, S> {
         ensures law { OnlyTheScore (state S.Sample self.old) (delivered result) }
         ensures kept { self.new.sums.now ≡ self.old.sums.now }
         ensures worked { Worked S.Sample result work.old work.new }
-        ensures unmoved { IfDenied result (self.new ≡ self.old) }
+        ensures unmoved { OnErr result (self.new ≡ self.old) }
         ensures lent { self.new.sums.ghost_name ≡ self.old.sums.ghost_name }
     {
         self.standing.stage.admit(Call::Decide)?;
@@ -39,9 +39,9 @@ impl<'a, S: Sample> Bay<'a, S> {
         if work.len() != self.sums.len() {
             return Err(Denial::Work);
         }
-        // no bay that was opened comes to this denial
+        // stays: no bay that was opened comes to this denial, but a bay's fields may hold any values, and each has its answer
         let leader = self.look(work).ok_or(Denial::Shut)?;
-        // stays: no From makes the numbers, since two of them are the bay's and three are the search's
+        // stays: the five numbers are one plain record, two of them the bay's and three the search's
         let numbers = Numbers {
             degree: self.standing.degree,
             held: self.standing.held,

@@ -1,11 +1,11 @@
 //! Receptions taken into a bay, and let go again.
-ghost use Rattle.std.specs.Prelude.{◌≡◌};
+ghost use Rattle.std.specs.Prelude.{◌≡◌, OnOk, OnErr};
 ghost use Rattle.decoder.specs.Search.{meanings, Zeros};
 ghost use Rattle.bay.specs.Rules.Dealing.{Take, Clear};
 ghost use Rattle.bay_rules.specs.Lived.{Deals};
 ghost use Rattle.bay_rules.specs.Steps.{Steps};
 ghost use Rattle.bay_calls.specs.Sums.{Summed};
-ghost use Rattle.bay_calls.specs.Seen.{state, counted, IfDone, IfDenied};
+ghost use Rattle.bay_calls.specs.Seen.{state, counted};
 
 use crate::admission::Call;
 use crate::bays::Bay;
@@ -18,15 +18,15 @@ impl<'a, S: Sample> Bay<'a, S> {
     pub fn take(&mut self, reception: &[S]) -> Result<u8, Denial>
         ensures steps { Steps (state S.Sample self.old) (Take (meanings S.Sample reception.now)) (counted result) (state S.Sample self.new) }
         ensures deals { Deals (state S.Sample self.old) (Take (meanings S.Sample reception.now)) (counted result) (state S.Sample self.new) }
-        ensures summed { IfDone result (Summed S.Sample self.old.sums.now reception.now self.new.sums.now) }
-        ensures unmoved { IfDenied result (self.new ≡ self.old) }
+        ensures summed { OnOk result (Summed S.Sample self.old.sums.now reception.now self.new.sums.now) }
+        ensures unmoved { OnErr result (self.new ≡ self.old) }
         ensures lent { self.new.sums.ghost_name ≡ self.old.sums.ghost_name }
     {
         self.standing.stage.admit(Call::Take)?;
         if reception.len() != self.sums.len() {
             return Err(Denial::Length);
         }
-        // stays: what is found is the denial's place, and a map_or with a ? in its place says it in no plainer way
+        // stays: what is found is denied; `map_or(Ok(()), ..)?` would say the same the other way round
         if let Some(i) = first_above(reception, 32767) {
             return Err(Denial::TooLarge(i));
         }
@@ -42,8 +42,8 @@ impl<'a, S: Sample> Bay<'a, S> {
     pub fn clear(&mut self) -> Result<u8, Denial>
         ensures steps { Steps (state S.Sample self.old) Clear (counted result) (state S.Sample self.new) }
         ensures deals { Deals (state S.Sample self.old) Clear (counted result) (state S.Sample self.new) }
-        ensures zeros { IfDone result (Zeros S.Sample self.old.sums.now self.new.sums.now) }
-        ensures unmoved { IfDenied result (self.new ≡ self.old) }
+        ensures zeros { OnOk result (Zeros S.Sample self.old.sums.now self.new.sums.now) }
+        ensures unmoved { OnErr result (self.new ≡ self.old) }
         ensures lent { self.new.sums.ghost_name ≡ self.old.sums.ghost_name }
     {
         self.standing.stage.admit(Call::Clear)?;

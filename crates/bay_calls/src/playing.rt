@@ -1,12 +1,12 @@
 //! A list of dealings, played on a bay of its own.
-ghost use Rattle.std.specs.Prelude.{◌≡◌, ℕ, ◌≤◌, min, true, length};
+ghost use Rattle.std.specs.Prelude.{◌≡◌, ℕ, ◌≤◌, min, true, length, OnOk, OnErr};
 ghost use Rattle.bay.specs.Rules.{Opening, shut};
 ghost use Rattle.bay.specs.Rules.Run.{Opened};
 ghost use Rattle.bay.specs.Rules.Dealing.{Decide as Deciding};
 ghost use Rattle.bay_rules.specs.Lived.{Lived, Deals};
 ghost use Rattle.bay_rules.specs.Steps.{Steps};
 ghost use Rattle.bay.specs.Replay.{made, Carries};
-ghost use Rattle.bay_calls.specs.Seen.{opening, state, delivered, IfDone, IfDenied};
+ghost use Rattle.bay_calls.specs.Seen.{opening, state, delivered};
 ghost use Rattle.bay_calls.specs.Played.{part as part_of, meant, told, handed, written, Beyond, Wiped, WorkAfter, WorkLeft, SumsLeft};
 
 use crate::bays::Bay;
@@ -49,10 +49,10 @@ fn decide_part<S: Sample>(bay: &mut Bay<S>, work: &mut [S], n: usize) -> Result<
     requires { n ≤ length work.old }
     ensures steps { Steps (state S.Sample bay.old) (Deciding n) (delivered result) (state S.Sample bay.new) }
     ensures deals { Deals (state S.Sample bay.old) (Deciding n) (delivered result) (state S.Sample bay.new) }
-    ensures unmoved { IfDenied result (bay.new ≡ bay.old) }
+    ensures unmoved { OnErr result (bay.new ≡ bay.old) }
     ensures kept { bay.new.sums.now ≡ bay.old.sums.now }
-    ensures wiped { IfDone result (Wiped S.Sample (length bay.old.sums.now) work.old work.new) }
-    ensures untouched { IfDenied result (work.new ≡ work.old) }
+    ensures wiped { OnOk result (Wiped S.Sample (length bay.old.sums.now) work.old work.new) }
+    ensures untouched { OnErr result (work.new ≡ work.old) }
     ensures lent { bay.new.sums.ghost_name ≡ bay.old.sums.ghost_name }
 {
     bay.decide(&mut work[..n])
@@ -69,9 +69,10 @@ fn reason(refused: Refused) -> Denial
 }
 
 /// One dealing: a verdict is made of its numbers for it, and ends with it.
+// stays: the bay, the pool and the work memory go together, but each is lent by the caller, and the bay alone keeps anything
 fn play_one<S: Sample>(bay: &mut Bay<S>, work: &mut [S], pool: &[S], dealing: Dealing) -> Answer
     ensures deals { Deals (state S.Sample bay.old) (meant S.Sample pool.now (length work.old) dealing) (told result) (state S.Sample bay.new) }
-    ensures unmoved { IfDenied result (bay.new ≡ bay.old) }
+    ensures unmoved { OnErr result (bay.new ≡ bay.old) }
     ensures works { WorkAfter S.Sample (length bay.old.sums.now) result work.old work.new }
     ensures long { length bay.new.sums.now ≡ length bay.old.sums.now }
     ensures lent { bay.new.sums.ghost_name ≡ bay.old.sums.ghost_name }

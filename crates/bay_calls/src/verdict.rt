@@ -25,6 +25,7 @@ pub struct Refused {
 }
 
 /// A verdict of these numbers.
+// stays: a `From` would be public, and make verdicts anywhere
 pub(crate) fn issue(numbers: Numbers) -> Verdict
     ensures { result.numbers ≡ numbers }
 {
@@ -32,6 +33,7 @@ pub(crate) fn issue(numbers: Numbers) -> Verdict
 }
 
 /// Ends a verdict that has had its answer.
+// stays: a `From` would be public, and end verdicts anywhere
 pub(crate) fn spend(verdict: Verdict) -> Numbers
     ensures { result ≡ verdict.numbers }
 {

@@ -6,7 +6,7 @@ use bay_calls::{Bay, Denial};
 use samples::{Complex, Sample};
 use std::io;
 
-// stays: the two below differ in one call, and a closure for it would have to say what the call asks
+// stays: the two below differ in which answer the verdict gets; a closure in its place would have to state what that call asks
 /// Decides, and has the verdict repeated: how many stay held.
 fn kept<S: Sample>(bay: &mut Bay<S>, work: &mut [S]) -> Result<u8, Denial> {
     let verdict = decided(bay, work)?;

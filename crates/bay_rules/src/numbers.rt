@@ -4,7 +4,7 @@
 /// over the best other word.
 #[derive(Clone, Copy, PartialEq, Eq, Debug)]
 pub struct Numbers {
-    // stays: the numbers that a list of dealings answers with are any numbers
+    // stays: a verdict that a list hands in may have any number here, so that it can be denied
     pub degree: u8,
     pub held: u8,
     pub message: u32,

@@ -14,6 +14,7 @@ pub struct Denied {
 }
 
 impl Denied {
+    /// A refusal of this number at this place.
     pub fn new(number: u8, place: usize) -> Denied
         ensures number { result.number ≡ number }
         ensures place { result.place ≡ place }

@@ -4,7 +4,7 @@ use reception_file::Stored;
 
 /// Parts of all sizes, the lowest for 0.
 fn spread(i: usize) -> i32 {
-    // stays: what is cast is below 65,535, so `as` loses nothing
+    // stays: what is cast is below 65,535, so `as` is proved to lose nothing, and `try_from` would answer an error that cannot come
     (i % 64 * 2849 % 65535) as i32 - 32767
 }
 

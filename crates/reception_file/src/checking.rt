@@ -8,7 +8,8 @@ use crate::kind::Kind;
 use crate::parts::{check_parts, parts_of};
 use crate::refusal::Refusal;
 
-/// The head of a file that is exactly as long as its head says. The arms stand in the order of the refusals, the last first.
+/// The head of a file that is exactly as long as its head says. The first arm refuses the kind, the degree, the count and the
+/// length, in this order; the others stand in the order of their refusals, the last first.
 fn measure(bytes: &[u8]) -> Result<Head, Refusal>
     ensures { Measured bytes.now result }
 {

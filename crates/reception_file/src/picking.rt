@@ -56,6 +56,7 @@ impl CheckedFile<'_> {
     }
 }
 
+// stays: the answer is the degree's number, as the calls on the code and the bay take it
 /// Leaves one reception of a file in the memory, and answers the degree. Receptions are numbered from 0.
 pub fn pick<S: Stored>(bytes: &[u8], reception: usize, memory: &mut [S]) -> Result<u8, Refusal>
     ensures picks { Picks S.Sample S.Stored.own bytes.now reception memory.old result memory.new }

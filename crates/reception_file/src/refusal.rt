@@ -35,6 +35,7 @@ impl Refusal {
         ensures { result ≡ number self }
     {
         match self {
+            // stays: variants hold numbers, so `as` does not give the refusal's
             Refusal::Memory => 3,
             Refusal::Short(_) => 20,
             Refusal::Mark(_) => 21,

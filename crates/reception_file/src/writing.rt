@@ -66,6 +66,7 @@ fn write_parts<S: Stored>(samples: &[S], bytes: &mut [u8])
     }
 }
 
+// stays: any degree can be handed in, so that it can be refused
 /// Writes a file: the samples of all receptions, one reception after the other. Answers the file's length.
 pub fn write<S: Stored>(
     degree: u8,

@@ -1,7 +1,7 @@
 -- What a transform refuses, by number and place, and how that is written.
 --
 -- Glossary
---   Length    the refusal of a length that has no transform
+--   Length    the refusal of a length that has no transform, or not the one that was asked for
 --   Size i    the refusal of a size that is too large, first at index i
 --   number    a refusal's number
 --   place     the index that a refusal speaks of, or 0

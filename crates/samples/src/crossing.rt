@@ -27,7 +27,7 @@ fn cross_block<S: Sample>(w: &mut [S], start: usize, h: usize)
     }
 }
 
-// Crosses the halves of each of the blocks.
+// Crosses the halves of each of the blocks, which fill the slice.
 fn pass<S: Sample>(w: &mut [S], h: usize, blocks: usize)
     requires { blocks * (h + h) ≡ length w.old }
     ensures { (v : ℕ) → v < length w.old → at S.Sample w.new v ≡ crossed S.Sample h (at S.Sample w.old) v }
@@ -44,6 +44,7 @@ pub(crate) fn passes<S: Sample>(w: &mut [S], degree: usize)
     ensures exact { (v : ℕ) → v < length w.old → at S.Sample w.new v ≡ after S.Sample w.old degree v }
     ensures sums { (b : ℕ) → Within S.Sample b w.old → length w.old * b ≤ limit → Transformed S.Sample w.old w.new }
 {
+    // stays: each pass goes over blocks twice as wide as the one before, and the width is what the next one is handed
     let mut h = 1;
     for _ in 0..degree {
         let width = 2 * h;

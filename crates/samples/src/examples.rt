@@ -7,6 +7,6 @@ pub fn examples_stand() -> u8
     ensures count { result ≡ length rows }
     ensures all { Examples }
 {
-    // stays: the number is no flag, it is the length of the list of examples, which the contract fixes
+    // stays: how many there are is what this answers; the contract has it equal to the length of the list
     14
 }

@@ -5,7 +5,7 @@ ghost use Rattle.samples.specs.Refusals.{number, place};
 /// Why a transform was not made.
 #[derive(Clone, Copy, PartialEq, Eq, Debug)]
 pub enum Refusal {
-    /// The length is none of 8, 32 and 128.
+    /// The length is none of 8, 32 and 128; of `transform_sized`, it is not 2 to the degree, or the degree is above 7.
     Length,
     /// The first index whose sample is too large.
     Size(usize),
@@ -17,6 +17,7 @@ impl Refusal {
         ensures { result ≡ number self }
     {
         match self {
+            // stays: a variant holds an index, so `as` does not give the number
             Refusal::Length => 14,
             Refusal::Size(_) => 15,
         }

@@ -7,7 +7,7 @@ use crate::sample::Sample;
 pub fn first_above<S: Sample>(samples: &[S], limit: u32) -> Option<usize>
     ensures { FirstAbove S.Sample limit samples.now result }
 {
-    // stays: the answer is the index of the first offender, and the loop over the samples leaves with it
+    // stays: the rule of this check is a loop over the samples with their index, which answers the first offender
     for (i, x) in samples.iter().enumerate() {
         if x.size() > limit {
             return Some(i);

@@ -28,6 +28,7 @@ pub fn transform<S: Sample>(w: &mut [S]) -> Result<(), Refusal>
         128 => 7,
         _ => return Err(Refusal::Length),
     };
+    // stays: what is found is refused; `map_or(Ok(()), ..)?` would say the same the other way round
     if let Some(i) = first_above(w, LOUDEST) {
         return Err(Refusal::Size(i));
     }

@@ -29,8 +29,7 @@ pub next_pair : (text left pair after : List ℕ) (n : ℕ) → left ≡ pair ++
 next_pair text left pair after n is two long same =
     let more : length left ≡ 2 + length after = ap length is ∙ length-append pair after ∙ ap (λ m. m + length after) two in
     let before : (k : ℕ) → k < 2 → get_or pair k 0 ≡ get_or text (2 * n + k) 0 =
-        λ k few. sym (get_or_append_left pair after 0 k (omega (arith, two))) ∙ ap (λ xs. get_or xs k 0) (sym is) ∙ same k (omega (arith, more)) in
-    (
+    λ k few. sym (get_or_append_left pair after 0 k (omega (arith, two))) ∙ ap (λ xs. get_or xs k 0) (sym is) ∙ same k (omega (arith, more)) in (
       omega (arith, more),
       λ k few.
           let step : 2 * n + (2 + k) ≡ 2 * (n + 1) + k = omega arith in

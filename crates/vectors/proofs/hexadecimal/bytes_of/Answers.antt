@@ -9,8 +9,7 @@ loop-pair-preserved c =
     let p = c.in_ok-push.ensures in
     let more = p.len in
     let digits = c.in-Some-byte.ensures in
-    let t = next_pair _ _ _ _ (vec_len c.loop-pair.bytes) s.1.0 (s.1.1 ∙ i.0) i.1 i.2 in
-    (
+    let t = next_pair _ _ _ _ (vec_len c.loop-pair.bytes) s.1.0 (s.1.1 ∙ i.0) i.1 i.2 in (
       s.0 ∙ i.0,
       rw more t.0,
       λ k few. t.1 k few ∙ ap (λ n. get_or c.args.text.now (2 * n + k) 0) (sym more),
