@@ -19,6 +19,7 @@ impl Complex {
         ensures means { result ≡ asked (reads (complex_means self)) symbol }
         ensures cases { result ≡ asked (complex_reading self) symbol }
     {
+        // stays: the readings are a match on the symbol, by the rule of this kind
         match symbol {
             0 => Some(i64::from(self.re)),
             1 => Some(i64::from(self.im)),

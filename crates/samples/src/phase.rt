@@ -21,6 +21,7 @@ impl Phase {
         ensures means { result ≡ asked (reads (phase_means self)) symbol }
         ensures cases { result ≡ asked (phase_reading self) symbol }
     {
+        // stays: the readings are a match on the symbol, by the rule of this kind
         match symbol {
             0 => Some(i64::from(self.at0)),
             1 => Some(i64::from(self.at1)),
