@@ -1,4 +1,4 @@
-// Code books: the traces and places of one degree, filled into the caller's memory.
+//! Code books: the traces and places of one degree, filled into the caller's memory.
 ghost use Rattle.std.specs.Prelude.{◌≡◌, ℕ, suc, ◌+◌, ◌*◌, ◌%◌, ◌<◌, ◌≤◌, IsTrue, if◌then◌else◌, Ok, Err, length, slice_index};
 ghost use Rattle.kerdock.specs.Code.{t, place, period, size};
 ghost use Rattle.kerdock.specs.Table.{row_of, known};

@@ -1,4 +1,4 @@
-// The code of one degree: the words of its messages, and the indices of its places.
+//! The code of one degree: the words of its messages, and the indices of its places.
 ghost use Rattle.std.specs.Prelude.{◌≡◌, ◌<◌, length};
 ghost use Rattle.kerdock.specs.Code.{size, symbol, place};
 ghost use Rattle.kerdock.specs.Table.{row_of};
