@@ -78,12 +78,12 @@ impl<'a> Traces<'a> {
         requires { j < period (row_of self.now.row.now.degree) }
         ensures { result ≡ place (row_of self.now.row.now.degree) (suc j) }
     {
-        let mut place = 0;
-        // stays: the traces are counted round, so there is no slice to go along
-        for k in 0..self.row.degree {
-            place += (self.at(j + k) % 2) << k;
-        }
-        place
+        self.once[j..]
+            .iter()
+            .chain(self.once)
+            .zip(0..self.row.degree)
+            .map(|(&trace, k)| (trace % 2) << k)
+            .sum()
     }
 }
 

@@ -11,7 +11,7 @@ pub(crate) fn digit(message: u32, k: usize) -> u8
     requires { k < 16 }
     ensures { result ≡ digit message k }
 {
-    // stays: `as` is proved to lose nothing here, and `try_from` would answer a refusal that never comes
+    // stays: `as` is proved to lose nothing, and `u8::try_from(..).unwrap()` says the same at more length
     ((message >> (2 * k)) % 4) as u8
 }
 

@@ -19,7 +19,7 @@ impl TableRow {
     pub(crate) fn messages(&self) -> u32
         ensures { result ≡ messages (row_of self.now.degree) }
     {
-        // stays: `as` is proved to lose nothing here, and `try_from` would answer a refusal that never comes
+        // stays: `as` is proved to lose nothing, and `u32::try_from(..).unwrap()` says the same at more length
         let length = self.length as u32;
         4 * length * length
     }

@@ -37,7 +37,7 @@ impl Tally {
         if word.is_empty() {
             return;
         }
-        // stays: `usize` has no `From<u32>`
+        // stays: `as` is proved to lose nothing, and `usize::try_from(message).unwrap()` says the same at more length
         let index = message as usize % word.len();
         word[index] = (word[index] & 3) ^ 1;
         if read_back(degree, word) == Err(Refusal::NoWord) {
