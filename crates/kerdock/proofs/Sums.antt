@@ -94,3 +94,15 @@ sum_of_range f a (suc n) =
     sum_by-cons f a (range_with_len (a + 1) n)
     ∙ ap (λ (s : ℕ). f a + s) (sum_of_range f (a + 1) n ∙ sum_same (λ k. f (a + 1 + k)) (λ k. f (a + suc k)) n (λ k b. ap f (omega arith)))
     ∙ (omega arith)
+
+-- a sum over a list whose entries are numbered from a on
+pub sum_of_numbered : (f : ℕ × ℕ → ℕ) (xs : List ℕ) (a n : ℕ) → n ≤ length xs → sum_by f (zip xs (range_with_len a n)) ≡ sum_to (λ k. f (get_or xs k 0, a + k)) n
+sum_of_numbered f [] a zero h = refl
+sum_of_numbered f [] a (suc n) h = absurd (omega arith)
+sum_of_numbered f (x ∷ xs) a zero h = refl
+sum_of_numbered f (x ∷ xs) a (suc n) h =
+    sum_by-cons f (x, a) (zip xs (range_with_len (a + 1) n))
+    ∙ ap₂ (λ (y s : ℕ). y + s) (ap (λ (y : ℕ). f (x, y)) (sym (add-zero a)))
+    (sum_of_numbered f xs (a + 1) n (omega arith)
+    ∙ sum_same (λ k. f (get_or xs k 0, a + 1 + k)) (λ k. f (get_or xs k 0, a + suc k)) n (λ k b. ap (λ (y : ℕ). f (get_or xs k 0, y)) (omega arith)))
+    ∙ sym (sum_front (λ k. f (get_or (x ∷ xs) k 0, a + k)) n)
