@@ -15,3 +15,4 @@ pub mod Symbols
 pub mod Laws
 pub mod Weights
 pub mod Candidates
+pub mod Rounds

@@ -1,7 +1,9 @@
 -- Laws of sum_to, f 0 + .. + f (n - 1), and of products modulo 4.
-use Rattle.std.proofs.Common.{◌≡◌, ℕ, zero, suc, ◌+◌, ◌*◌, ◌/◌, ◌%◌, ◌<◌, sym, refl, ap, ◌∙◌, ap₂, inl, inr, add-zero, mul_assoc, add-mul, zero-add, add-one, arith}
+use Rattle.std.proofs.Common.{◌≡◌, ℕ, zero, suc, ◌+◌, ◌*◌, ◌/◌, ◌%◌, ◌<◌, ◌≤◌, List, [], ◌∷◌, length, get_or, sym, refl, ap, ◌∙◌, ap₂, inl, inr, add-zero, mul_assoc, add-mul, zero-add, add-one, mul-suc, arith}
 use native.Mathlib.Nat.{add-mod, add-mod-mod, mod-add-mod, mod-add-div, zero-mod}
 use Rattle.std.proofs.lemmas.Bool.{cases_lt}
+use Rattle.std.proofs.lemmas.List.Sums.{sum_by-cons}
+use Rattle.std.specs.List.{zip, sum_by, range_with_len}
 use Rattle.kerdock.specs.Code.{sum_to}
 
 -- equal terms, equal sums
@@ -62,3 +64,45 @@ mod_times n x =
     ap (λ (y : ℕ). y * x) (sym (mod-add-div n 4)) ∙ add-mul (n % 4) (4 * (n / 4)) x
     ∙ ap (λ (y : ℕ). n % 4 * x + y) (mul_assoc 4 (n / 4) x) in
     omega arith
+
+-- terms of at most m, so many times m at most
+pub sum_most : (m : ℕ) (f : ℕ → ℕ) (n : ℕ) → ((k : ℕ) → k < n → f k ≤ m) → sum_to f n ≤ m * n
+sum_most m f zero h = omega arith
+sum_most m f (suc n) h =
+    let before = sum_most m f n (λ k b. h k (omega arith)) in
+    let last = h n (omega arith) in
+    let more = mul-suc m n in omega arith
+
+-- the products of two lists of one length, entry by entry, and their sum
+abbrev pub products : List ℕ → List ℕ → ℕ → ℕ
+products xs ys k = get_or xs k 0 * get_or ys k 0
+
+pub sum_of_products : (xs ys : List ℕ) → length ys ≡ length xs → sum_by (λ (p : ℕ × ℕ). p.0 * p.1) (zip xs ys) ≡ sum_to (products xs ys) (length xs)
+sum_of_products [] ys e = refl
+sum_of_products (x ∷ xs) [] e = absurd (omega arith)
+sum_of_products (x ∷ xs) (y ∷ ys) e =
+    sum_by-cons (λ (p : ℕ × ℕ). p.0 * p.1) (x, y) (zip xs ys)
+    ∙ ap (λ (s : ℕ). x * y + s) (sum_of_products xs ys (omega arith))
+    ∙ sym (sum_front (products (x ∷ xs) (y ∷ ys)) (length xs))
+
+-- the sum of the numbers below n, each taken by f
+pub sum_of_range : (f : ℕ → ℕ) (a n : ℕ) → sum_by f (range_with_len a n) ≡ sum_to (λ k. f (a + k)) n
+sum_of_range f a zero = refl
+sum_of_range f a (suc n) =
+    let e = sum_front (λ k. f (a + k)) n in
+    let z = ap f (add-zero a) in
+    sum_by-cons f a (range_with_len (a + 1) n)
+    ∙ ap (λ (s : ℕ). f a + s) (sum_of_range f (a + 1) n ∙ sum_same (λ k. f (a + 1 + k)) (λ k. f (a + suc k)) n (λ k b. ap f (omega arith)))
+    ∙ (omega arith)
+
+-- a sum over a list whose entries are numbered from a on
+pub sum_of_numbered : (f : ℕ × ℕ → ℕ) (xs : List ℕ) (a n : ℕ) → n ≤ length xs → sum_by f (zip xs (range_with_len a n)) ≡ sum_to (λ k. f (get_or xs k 0, a + k)) n
+sum_of_numbered f [] a zero h = refl
+sum_of_numbered f [] a (suc n) h = absurd (omega arith)
+sum_of_numbered f (x ∷ xs) a zero h = refl
+sum_of_numbered f (x ∷ xs) a (suc n) h =
+    sum_by-cons f (x, a) (zip xs (range_with_len (a + 1) n))
+    ∙ ap₂ (λ (y s : ℕ). y + s) (ap (λ (y : ℕ). f (x, y)) (sym (add-zero a)))
+    (sum_of_numbered f xs (a + 1) n (omega arith)
+    ∙ sum_same (λ k. f (get_or xs k 0, a + 1 + k)) (λ k. f (get_or xs k 0, a + suc k)) n (λ k b. ap (λ (y : ℕ). f (get_or xs k 0, y)) (omega arith)))
+    ∙ sym (sum_front (λ k. f (get_or (x ∷ xs) k 0, a + k)) n)

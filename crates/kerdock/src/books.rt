@@ -1,4 +1,4 @@
-// Code books: the traces and places of one degree, filled into the caller's memory.
+//! Code books: the traces and places of one degree, filled into the caller's memory.
 ghost use Rattle.std.specs.Prelude.{◌≡◌, ℕ, suc, ◌+◌, ◌*◌, ◌%◌, ◌<◌, ◌≤◌, IsTrue, if◌then◌else◌, Ok, Err, length, slice_index};
 ghost use Rattle.kerdock.specs.Code.{t, place, period, size};
 ghost use Rattle.kerdock.specs.Table.{row_of, known};
@@ -43,7 +43,7 @@ impl CodeBook {
 #[derive(Clone, Copy)]
 pub(crate) struct Traces<'a> {
     row: &'a TableRow,
-    once: &'a [u8],
+    pub(crate) once: &'a [u8],
     ghost long: { length once.now ≡ period (row_of row.now.degree) },
     ghost filled: { (k : ℕ) → k < period (row_of row.now.degree) → slice_index once.now k ≡ t (row_of row.now.degree) k },
 }
@@ -60,30 +60,17 @@ impl<'a> Traces<'a> {
         }
     }
 
-    // Trace number j, counted round.
-    pub(crate) fn at(&self, j: usize) -> u8
-        requires { j < 2 * period (row_of self.now.row.now.degree) }
-        ensures { result ≡ t (row_of self.now.row.now.degree) j }
-    {
-        let period = self.once.len();
-        if j < period {
-            self.once[j]
-        } else {
-            self.once[j - period]
-        }
-    }
-
-    // The place of index j + 1: bit k is the lowest bit of trace j + k.
+    // The place of index j + 1: bit k is the lowest bit of trace j + k, where the first trace comes again after the last.
     fn place(&self, j: usize) -> u8
         requires { j < period (row_of self.now.row.now.degree) }
         ensures { result ≡ place (row_of self.now.row.now.degree) (suc j) }
     {
-        let mut place = 0;
-        // stays: the traces are counted round, so there is no slice to go along
-        for k in 0..self.row.degree {
-            place += (self.at(j + k) % 2) << k;
-        }
-        place
+        self.once[j..]
+            .iter()
+            .chain(self.once)
+            .zip(0..self.row.degree)
+            .map(|(&trace, k)| (trace % 2) << k)
+            .sum()
     }
 }
 

@@ -1,4 +1,4 @@
-// The code of one degree: the words of its messages, and the indices of its places.
+//! The code of one degree: the words of its messages, and the indices of its places.
 ghost use Rattle.std.specs.Prelude.{◌≡◌, ◌<◌, length};
 ghost use Rattle.kerdock.specs.Code.{size, symbol, place};
 ghost use Rattle.kerdock.specs.Table.{row_of};
@@ -31,16 +31,19 @@ impl Code {
         requires { index < size (row_of self.now.row.degree) }
         ensures { result ≡ symbol (row_of self.now.row.degree) message index }
     {
-        let mut sum = digit(message, 0);
+        let first = digit(message, 0);
         if index == 0 {
-            return sum;
+            return first;
         }
-        let traces = Traces::new(&self.row, &self.book.traces);
-        // stays: the traces are counted round, so there is no slice to go along
-        for k in 0..self.row.degree {
-            sum += digit(message, k + 1) * traces.at(index - 1 + k);
-        }
-        sum % 4
+        // the traces from that of this index on, where the first comes again after the last
+        let once = Traces::new(&self.row, &self.book.traces).once;
+        let others: u8 = once[index - 1..]
+            .iter()
+            .chain(once)
+            .zip(0..self.row.degree)
+            .map(|(&trace, k)| digit(message, k + 1) * trace)
+            .sum();
+        (first + others) % 4
     }
 
     // Writes the word of a message into memory of just its length.

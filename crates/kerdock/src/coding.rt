@@ -1,4 +1,4 @@
-// Encoding: a message to its word.
+//! Encoding: a message to its word.
 ghost use Rattle.std.specs.Prelude.{◌≡◌, length, if◌then◌else◌, Some, None};
 ghost use Rattle.kerdock.specs.Code.{size};
 ghost use Rattle.kerdock.specs.Table.{row_of, known};

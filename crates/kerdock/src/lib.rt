@@ -1,4 +1,4 @@
-// The Z4 Kerdock code: code books, encoding, reading back, and sums of messages.
+//! The Z4 Kerdock code: code books, encoding, reading back, and sums of messages.
 #![tactic(auto)]
 
 pub mod books;

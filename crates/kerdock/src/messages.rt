@@ -1,4 +1,4 @@
-// Sums of messages.
+//! Sums of messages.
 ghost use Rattle.std.specs.Prelude.{◌≡◌, ℕ, suc, ◌+◌, ◌*◌, ◌%◌, ◌^◌, ◌<◌, ◌≤◌};
 ghost use Rattle.kerdock.specs.Code.{sum_to, digit};
 ghost use Rattle.kerdock.specs.Calls.{adds, WordsAdd};
@@ -11,7 +11,7 @@ pub(crate) fn digit(message: u32, k: usize) -> u8
     requires { k < 16 }
     ensures { result ≡ digit message k }
 {
-    // stays: `as` is proved to lose nothing here, and `try_from` would answer a refusal that never comes
+    // stays: `as` is proved to lose nothing, and `u8::try_from(..).unwrap()` says the same at more length
     ((message >> (2 * k)) % 4) as u8
 }
 
@@ -20,12 +20,9 @@ fn sum_digits(count: usize, first: u32, second: u32) -> u32
     requires { count ≤ 8 }
     ensures { result ≡ sum_to (λ k. 4 ^ k * ((digit first k + digit second k) % 4)) count }
 {
-    let mut sum = 0;
-    // stays: that the sum fits rests on the digits so far, which a loop keeps and a chain with `sum` does not
-    for k in 0..count {
-        sum += u32::from((digit(first, k) + digit(second, k)) % 4) << (2 * k);
-    }
-    sum
+    (0..count)
+        .map(|k| u32::from((digit(first, k) + digit(second, k)) % 4) << (2 * k))
+        .sum()
 }
 
 /// The message whose word is the sum of two messages' words.

@@ -1,4 +1,4 @@
-// Reading back: a list of symbols to the message whose word it is.
+//! Reading back: a list of symbols to the message whose word it is.
 ghost use Rattle.std.specs.Prelude.{◌≡◌, ℕ, suc, ◌+◌, ◌-◌, ◌*◌, ◌/◌, ◌%◌, ◌^◌, ◌<◌, ◌≤◌, ◌↔◌, IsTrue, MatchOption, length, slice_index};
 ghost use Rattle.kerdock.specs.Code.{size, symbol, messages, place, sum_to};
 ghost use Rattle.kerdock.specs.Table.{row_of};

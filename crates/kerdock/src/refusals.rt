@@ -1,4 +1,4 @@
-// Why a call of this crate is refused.
+//! Why a call of this crate is refused.
 ghost use Rattle.std.specs.Prelude.{◌≡◌, IfOk, Some, string_bytes};
 ghost use Rattle.kerdock.specs.Refusals.{number, place, line};
 

@@ -1,4 +1,4 @@
-// The degree table, as the code reads it.
+//! The degree table, as the code reads it.
 ghost use Rattle.std.specs.Prelude.{◌≡◌, ℕ, ◌*◌, ◌%◌, ◌<◌, ◌≤◌, IsTrue, length, MatchOption, slice_index};
 ghost use Rattle.kerdock.specs.Code.{t, period, messages, sum_to};
 ghost use Rattle.kerdock.specs.Table.{row_of, known};
@@ -19,7 +19,7 @@ impl TableRow {
     pub(crate) fn messages(&self) -> u32
         ensures { result ≡ messages (row_of self.now.degree) }
     {
-        // stays: `as` is proved to lose nothing here, and `try_from` would answer a refusal that never comes
+        // stays: `as` is proved to lose nothing, and `u32::try_from(..).unwrap()` says the same at more length
         let length = self.length as u32;
         4 * length * length
     }
@@ -30,11 +30,12 @@ impl TableRow {
         requires small { (k : ℕ) → k < self.now.degree → slice_index before.now k < 4 }
         ensures { result ≡ sum_to (λ k. slice_index self.now.rule.now k * slice_index before.now k) self.now.degree % 4 }
     {
-        let mut sum: u8 = 0;
-        for (&rule, &trace) in self.rule.iter().zip(before) {
-            sum += rule * trace;
-        }
-        sum % 4
+        self.rule
+            .iter()
+            .zip(before)
+            .map(|(&rule, &trace)| rule * trace)
+            .sum::<u8>()
+            % 4
     }
 
     // Fills in the traces, and zeros past them.
@@ -52,6 +53,8 @@ impl TableRow {
     }
 }
 
+// The row of a degree.
+// stays: any number may be asked for, since it is here that a degree the table lacks is refused
 #[tactic(auto, unfolding(crate::specs::Table::known, crate::specs::Table::row_of))]
 pub(crate) fn row_of(degree: u8) -> Option<TableRow>
     ensures { MatchOption result (¬ IsTrue (known degree)) (λ row. row.degree ≡ degree) }

@@ -1,4 +1,4 @@
-// What is shown of every row of the degree table.
+//! What is shown of every row of the degree table.
 ghost use Rattle.kerdock.specs.Code.{Row};
 ghost use Rattle.kerdock.specs.Table.{Among, rows};
 ghost use Rattle.kerdock.specs.Sound.{Sound, Published};

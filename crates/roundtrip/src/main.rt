@@ -1,5 +1,5 @@
-// Messages through the code and back: every message of degrees 3 and 5 and a spread of degree 7 is encoded and read back,
-// each word is damaged at one index and must be refused, and a report is printed.
+//! Messages through the code and back: every message of degrees 3 and 5 and a spread of degree 7 is encoded and read back,
+//! each word is damaged at one index and must be refused, and a report is printed.
 #![tactic(auto)]
 
 ghost use Rattle.std.specs.Prelude.{◌+◌, ◌<◌};
@@ -9,6 +9,7 @@ use kerdock::coding::encode;
 use kerdock::messages::add_messages;
 use kerdock::reading::read_back;
 use kerdock::refusals::Refusal;
+use std::fmt::Debug;
 
 // What came of a run over many messages.
 #[derive(Clone, Copy, Default)]
@@ -36,7 +37,7 @@ impl Tally {
         if word.is_empty() {
             return;
         }
-        // stays: `usize` has no `From<u32>`
+        // stays: `as` is proved to lose nothing, and `usize::try_from(message).unwrap()` says the same at more length
         let index = message as usize % word.len();
         word[index] = (word[index] & 3) ^ 1;
         if read_back(degree, word) == Err(Refusal::NoWord) {
@@ -91,29 +92,32 @@ fn report_book(rt: &HostRuntime) -> anyhow::Result<()> {
     Ok(())
 }
 
-// stays: each report says its answer in its own words, and one function for all would be handed them as text that needs memory
-fn report_word(rt: &HostRuntime, degree: u8, message: u32, word: &mut [u8]) -> anyhow::Result<()> {
-    match encode(degree, message, word) {
-        Ok(()) => println!(rt; "degree {degree}, message {message}: {word:?}")?,
-        Err(refusal) => println!(rt; "degree {degree}, message {message}: {refusal}")?,
+// Ends a line with what is answered, after the words that name it, or with the refusal.
+fn say<T: Debug + Drop>(
+    rt: &HostRuntime,
+    named: &str,
+    answer: Result<T, Refusal>,
+) -> anyhow::Result<()> {
+    match answer {
+        Ok(told) => println!(rt; ": {named}{told:?}")?,
+        Err(refusal) => println!(rt; ": {refusal}")?,
     }
     Ok(())
+}
+
+fn report_word(rt: &HostRuntime, degree: u8, message: u32, word: &mut [u8]) -> anyhow::Result<()> {
+    print!(rt; "degree {degree}, message {message}")?;
+    say(rt, "", encode(degree, message, word).map(|()| word))
 }
 
 fn report_reading(rt: &HostRuntime, degree: u8, list: &[u8]) -> anyhow::Result<()> {
-    match read_back(degree, list) {
-        Ok(message) => println!(rt; "degree {degree}, {list:?}: message {message}")?,
-        Err(refusal) => println!(rt; "degree {degree}, {list:?}: {refusal}")?,
-    }
-    Ok(())
+    print!(rt; "degree {degree}, {list:?}")?;
+    say(rt, "message ", read_back(degree, list))
 }
 
 fn report_sum(rt: &HostRuntime, degree: u8, first: u32, second: u32) -> anyhow::Result<()> {
-    match add_messages(degree, first, second) {
-        Ok(sum) => println!(rt; "degree {degree}, message {first} plus {second}: message {sum}")?,
-        Err(refusal) => println!(rt; "degree {degree}, message {first} plus {second}: {refusal}")?,
-    }
-    Ok(())
+    print!(rt; "degree {degree}, message {first} plus {second}")?;
+    say(rt, "message ", add_messages(degree, first, second))
 }
 
 fn main(rt: HostRuntime) -> anyhow::Result<()> {

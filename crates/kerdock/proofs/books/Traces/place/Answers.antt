@@ -1,50 +1,85 @@
-use Rattle.std.proofs.Common.{◌≡◌, ℕ, ◌+◌, ◌*◌, ◌%◌, ◌^◌, refl, ap, ◌∙◌, mod-lt, arith}
-use Rattle.kerdock.specs.Code.{t, sum_to, place}
+use Rattle.std.proofs.Common.{◌≡◌, ℕ, ◌+◌, ◌*◌, ◌%◌, ◌^◌, ◌<◌, ◌≤◌, List, ◌++◌, length, drop, get_or, sym, ap, ◌∙◌, mod-lt, arith, rules}
+use native.Mathlib.Nat.{pow-le-pow_right}
+use Rattle.std.proofs.lemmas.Iterator.{YieldsList-from_slice, YieldsList-from_range, YieldsList-from_zip, YieldsList-from_map}
+use Rattle.std.proofs.lemmas.Iterator.Adapters.{serves_from_places}
+use Rattle.std.proofs.lemmas.Iterator.Consumers.{YieldsList-at, YieldsList-from_chain, sum_by_from_yields_List, fits_by_from_yields_list}
+use Rattle.std.specs.List.{zip, range_with_len, sum_by}
+use Rattle.kerdock.specs.Code.{t, period, sum_to, place}
 use Rattle.kerdock.specs.Table.{row_of}
-use Rattle.kerdock.proofs.Sums.{sum_step}
+use Rattle.kerdock.specs.declared.rows.TableRow.{TableRow}
+use Rattle.kerdock.proofs.Sums.{sum_of_numbered, sum_same}
 use Rattle.kerdock.proofs.RowFacts.{row_facts}
-use Rattle.kerdock.proofs.Weights.{Weighed, weighed, bit_moved}
+use Rattle.kerdock.proofs.Digits.{made_below}
+use Rattle.kerdock.proofs.Weights.{bit_moved}
+use Rattle.kerdock.proofs.Rounds.{round_at, round_long, numbered, to_end}
 use Rattle.kerdock.proofs.books.Traces.place.Goals as goal
 
-pub overflow_add-j : goal.overflow_add-j
-overflow_add-j c = let f = row_facts c.args.self.now.row.now in omega (arith, c.requires)
+-- a trace's lowest bit, moved up to its place
+abbrev moved : ℕ × ℕ → ℕ
+moved p = p.0 % 2 * 2 ^ p.1 % 256
 
-pub at-requires : goal.at-requires
-at-requires c =
-    let f = row_facts c.args.self.now.row.now in
-    omega (arith, c.requires)
+module _ (r : TableRow) (once : List ℕ) (long : length once ≡ period (row_of r.degree)) (filled : (k : ℕ) → k < period (row_of r.degree) → get_or once k 0 ≡ t (row_of r.degree) k)
+    (j : ℕ) (b : j < period (row_of r.degree)) where
+  total_is : sum_by moved (zip (drop j once ++ once) (range_with_len 0 r.degree)) ≡ sum_to (λ k. 2 ^ k * (t (row_of r.degree) (j + k) % 2)) r.degree
+  total_is =
+      let row = row_of r.degree in
+      let f = row_facts r in
+      let xs = drop j once ++ once in
+      let whole = round_long row f.sound once long filled j b in
+      sum_of_numbered moved xs 0 r.degree (omega arith)
+      ∙ sum_same (λ k. moved (get_or xs k 0, 0 + k)) (λ k. 2 ^ k * (t row (j + k) % 2)) r.degree (λ k h.
+      ap (λ (x : ℕ). moved (get_or xs k 0, x)) (omega arith) ∙ ap (λ (x : ℕ). moved (x, k)) (round_at row f.sound once long filled j b k (omega arith))
+      ∙ bit_moved (t row (j + k) % 2) k (mod-lt _ (omega arith)) (omega arith))
 
-pub overflow_cast-place : goal.overflow_cast-place
-overflow_cast-place c = let f = row_facts c.args.self.now.row.now in omega arith
+  total_fits : sum_by moved (zip (drop j once ++ once) (range_with_len 0 r.degree)) < 256
+  total_fits =
+      let f = row_facts r in
+      let below : sum_to (λ k. 2 ^ k * (t (row_of r.degree) (j + k) % 2)) r.degree < 2 ^ r.degree = made_below 2 (λ k. t (row_of r.degree) (j + k) % 2) r.degree (λ k h. mod-lt _ (omega arith)) in
+      let few : 2 ^ r.degree ≤ 2 ^ 7 = pow-le-pow_right {n = 2} (omega arith) f.seven in
+      let e = total_is in omega arith
 
-pub overflow_shl-place : goal.overflow_shl-place
-overflow_shl-place c = let f = row_facts c.args.self.now.row.now in omega arith
+pub sum-requires-clause-can : goal.sum-requires-clause-can
+sum-requires-clause-can c =
+    let s = c.args.self.now in
+    let r = s.row.now in
+    let f = row_facts r in (
+      ((λ _. tt, λ _. tt), tt),
+      serves_from_places
+          (YieldsList-at c.map.ensures.source
+          (YieldsList-from_zip
+          (YieldsList-at c.zip.ensures.first
+          (YieldsList-from_chain (YieldsList-at c.chain.ensures.first (YieldsList-from_slice (drop c.args.j s.once.now) (c.iter.ensures.rest ∙ to_end c.args.j s.once.now))) (YieldsList-from_slice s.once.now cc) c.chain.ensures.first_done c.chain.ensures.second_done))
+          (YieldsList-from_range 0 r.degree r.degree (cc) (omega arith))))
+          (λ x q k. search rules)
+          (λ x k b e. let p = numbered (row_of r.degree) f.sound s.once.now s.long s.filled c.args.j c.requires r.degree (omega arith) x.0.now x.1 k b e in let few : x.1 < 7 = omega arith in search rules),
+    )
 
--- one more bit
-bit_more : (c : goal.After-at) → Weighed 2 6 (2 ^ c.loop-k.k) c.loop-k.place (c.at.result % 2) c.loop-k.k
-bit_more c =
-    let f = row_facts c.args.self.now.row.now in
-    weighed 2 6 _ _ _ _ refl c.loop-k.invariant.1 (mod-lt _ (omega arith)) (omega arith) (omega arith)
-
-moved : (c : goal.After-at) → c.at.result % 2 * 2 ^ c.loop-k.k % 256 ≡ 2 ^ c.loop-k.k * (c.at.result % 2)
-moved c = let f = row_facts c.args.self.now.row.now in bit_moved _ c.loop-k.k (mod-lt _ (omega arith)) (omega arith)
-
-pub overflow_add-place : goal.overflow_add-place
-overflow_add-place c = let m = bit_more c in let e = moved c in omega arith
-
-pub loop-k-preserved : goal.loop-k-preserved
-loop-k-preserved c =
-    let row = row_of c.args.self.now.row.now.degree in
-    let m = bit_more c in
-    let e = moved c in
-    let k = c.loop-k.k in
-    let bit = ap (λ (x : ℕ). 2 ^ k * (x % 2)) c.at.ensures in
-    (ap (λ (x : ℕ). c.loop-k.place + x) (e ∙ bit) ∙ sum_step (λ l. 2 ^ l * (t row (c.args.j + l) % 2)) c.loop-k.place k c.loop-k.invariant.0, omega arith)
+pub sum-requires-clause-fits : goal.sum-requires-clause-fits
+sum-requires-clause-fits c =
+    let s = c.args.self.now in
+    let r = s.row.now in
+    fits_by_from_yields_list moved (zip (drop c.args.j s.once.now ++ s.once.now) (range_with_len 0 r.degree)) _ 256
+    (YieldsList-from_map _ moved
+    (YieldsList-at c.map.ensures.source
+    (YieldsList-from_zip
+    (YieldsList-at c.zip.ensures.first
+    (YieldsList-from_chain (YieldsList-at c.chain.ensures.first (YieldsList-from_slice (drop c.args.j s.once.now) (c.iter.ensures.rest ∙ to_end c.args.j s.once.now))) (YieldsList-from_slice s.once.now cc) c.chain.ensures.first_done c.chain.ensures.second_done))
+    (YieldsList-from_range 0 r.degree r.degree (cc) (omega arith))))
+    c.map.ensures.closure (λ x r q k. search rules)) (total_fits r s.once.now s.long s.filled c.args.j c.requires)
 
 pub returns : goal.returns
 unfolding place
 returns c =
-    let r = c.args.self.now.row.now in
+    let s = c.args.self.now in
+    let r = s.row.now in
     let f = row_facts r in
-    let n : c.loop-k.k ≡ (row_of r.degree).degree = omega arith in
-    c.loop-k.invariant.0 ∙ ap (sum_to (λ k. 2 ^ k * (t (row_of r.degree) (c.args.j + k) % 2))) n
+    sum_by_from_yields_List moved (zip (drop c.args.j s.once.now ++ s.once.now) (range_with_len 0 r.degree)) _ c.sum.result c.sum.ensures.ran
+    (YieldsList-from_map _ moved
+    (YieldsList-at c.map.ensures.source
+    (YieldsList-from_zip
+    (YieldsList-at c.zip.ensures.first
+    (YieldsList-from_chain (YieldsList-at c.chain.ensures.first (YieldsList-from_slice (drop c.args.j s.once.now) (c.iter.ensures.rest ∙ to_end c.args.j s.once.now))) (YieldsList-from_slice s.once.now cc) c.chain.ensures.first_done c.chain.ensures.second_done))
+    (YieldsList-from_range 0 r.degree r.degree (cc) (omega arith))))
+    c.map.ensures.closure (λ x r q k. search rules))
+    ∙ total_is r s.once.now s.long s.filled c.args.j c.requires
+    ∙ ap (sum_to (λ k. 2 ^ k * (t (row_of r.degree) (c.args.j + k) % 2))) (sym f.deg)
