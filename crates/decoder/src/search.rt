@@ -48,10 +48,7 @@ impl fmt::Display for Leader {
 pub fn clean<S: Sample>(work: &mut [S])
     ensures { Zeros S.Sample work.old work.new }
 {
-    // stays: `fill` asks for a clone that cannot fail, which no kind promises, and a call of `fill_with` gets no generated proof
-    for x in work.iter_mut() {
-        *x = S::zero();
-    }
+    work.fill_with(|| S::zero());
 }
 
 /// The leading message over the sums, or nothing where the degree is not in the table or a length is not its words'.
