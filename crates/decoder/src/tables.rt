@@ -97,11 +97,11 @@ impl Tables {
         let n = 1 << self.degree;
         let period = n - 1;
         let mut unit = [0; 128];
-        // stays: of the two arrays one goes by index, as in `sum_of`; and `array::from_fn` would work out all 128 places
+        // stays: one of the two arrays goes by index, whichever the loop walks; and `array::from_fn` would work out all 128 places
         for (p, index) in self.at[..n].iter().enumerate() {
             if *index > 0 {
                 let j = usize::from(*index) - 1 + k;
-                // stays: the traces are counted round here as in the book's own crate, where it is for a lawful book only
+                // stays: counted round by hand, since the books' own way to read a trace is for a lawful book, and this may be any
                 unit[p] = book.traces[if j < period { j } else { j - period }] & 3;
             }
         }
