@@ -54,7 +54,7 @@ pub fn clean<S: Sample>(work: &mut [S])
 /// The leading message over the sums, or nothing where the degree is not in the table or a length is not its words'.
 ///
 /// The sums stay as they are, and the work memory is left as zeros; where nothing is answered, nothing is written.
-/// The degree is any number, since it may come from outside: one that is not in the table is answered, as a wrong length is.
+/// Any number may be handed in as the degree: to one that is not in the table the answer is `None`.
 pub fn search<S: Sample>(degree: u8, book: &CodeBook, sums: &[S], work: &mut [S]) -> Option<Leader>
     ensures { Searched S.Sample degree book.now sums.now work.old result work.new }
 {

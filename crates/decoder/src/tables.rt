@@ -80,8 +80,8 @@ impl Tables {
         for k in 0..self.degree {
             let unit = self.unit_row(book, k);
             let half = 1 << k;
-            // stays: rows by index and by value. Of two parts by `split_at_mut` a proof knows no row that the loop leaves in
-            // them, and rows that are copied and then added to in their place take more instructions
+            // stays: rows by index and by value. Of two parts of a field by `split_at_mut` a proof knows no row that the loop
+            // leaves in them, and a row that is copied and then added to in its place takes more instructions
             for u in 0..half {
                 self.leaders[half + u] = sum_of(self.leaders[u], &unit);
             }
