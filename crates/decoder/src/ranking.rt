@@ -21,7 +21,9 @@ pub(crate) struct Best {
 }
 
 impl Best {
-    // No message so far: every score within the kinds' limit is above these.
+    // No message so far: every score within the kinds' limit is above these, so that the first message takes the lead as any
+    // other does.
+    // stays: two scores below all others, since an `Option<Best>` would be asked anew at every place
     pub(crate) fn nobody() -> Best
         ensures { (n : ℕ) (f : ℕ → ℤ) (key : ℕ → ℕ) → ((k : ℕ) → k < n → unsigned_abs (f k) ≤ limit) → Ranked n f key 0 result }
     {
@@ -75,6 +77,7 @@ impl Best {
         if self.passes_over(peak(work)) {
             return;
         }
+        // stays: `as` is proved to lose nothing at u and v, and `try_from` would answer an error that cannot come
         let lower = spread(u as u32);
         for (v, x) in work.iter().enumerate() {
             if !self.passes_over(peak_of(*x)) {

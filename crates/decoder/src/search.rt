@@ -48,15 +48,13 @@ impl fmt::Display for Leader {
 pub fn clean<S: Sample>(work: &mut [S])
     ensures { Zeros S.Sample work.old work.new }
 {
-    // stays: `fill` asks for a clone that cannot fail, which no kind promises, and a call of `fill_with` gets no generated proof
-    for x in work.iter_mut() {
-        *x = S::zero();
-    }
+    work.fill_with(|| S::zero());
 }
 
 /// The leading message over the sums, or nothing where the degree is not in the table or a length is not its words'.
 ///
 /// The sums stay as they are, and the work memory is left as zeros; where nothing is answered, nothing is written.
+/// Any number may be handed in as the degree: to one that is not in the table the answer is `None`.
 pub fn search<S: Sample>(degree: u8, book: &CodeBook, sums: &[S], work: &mut [S]) -> Option<Leader>
     ensures { Searched S.Sample degree book.now sums.now work.old result work.new }
 {
@@ -67,7 +65,7 @@ pub fn search<S: Sample>(degree: u8, book: &CodeBook, sums: &[S], work: &mut [S]
     let mut tables = Tables::blank(usize::from(degree));
     tables.fill(book);
     let mut best = Best::nobody();
-    // stays: u is the number of a coset, and no slice of cosets is there to go over
+    // stays: u is the number of a coset, which the tables and the ranking are both handed
     for u in 0..n {
         tables.lay(u, sums, work);
         transform_sized(work, usize::from(degree)).unwrap();

@@ -18,6 +18,7 @@ fn indices(book: &CodeBook, n: usize) -> [u8; 256]
 {
     let mut at = [0; 256];
     for (i, place) in book.places[..n].iter().enumerate() {
+        // stays: `as` is proved to lose nothing here, and `try_from` would answer an error that cannot come
         at[usize::from(*place)] = i as u8;
     }
     at
@@ -29,7 +30,8 @@ fn sum_of(mut row: [u8; 128], unit: &[u8; 128]) -> [u8; 128]
     requires unit { (p : ℕ) → slice_index unit.now p < 4 }
     ensures { (p : ℕ) → slice_index result p ≡ (slice_index row p + slice_index unit.now p) % 4 }
 {
-    // stays: the other row by index, since a proof knows nothing of what is written through `iter_mut().zip(..)`
+    // stays: the other row by index, since a proof knows nothing of what is written through `iter_mut().zip(..)`; and all 128
+    // places at every degree, since a row of fixed length is added in a few wide steps
     for (p, symbol) in row.iter_mut().enumerate() {
         *symbol = (*symbol + unit[p]) & 3;
     }
@@ -54,6 +56,7 @@ impl Tables {
     ghost use Rattle.decoder.specs.Tables.{Holds};
 
     // Tables to be filled.
+    // stays: two steps, since one `new` would copy the 16,384 bytes of the leaders as it returned them
     pub(crate) fn blank(degree: usize) -> Tables
         requires two { 2 ≤ degree }
         requires seven { degree ≤ 7 }
@@ -77,7 +80,8 @@ impl Tables {
         for k in 0..self.degree {
             let unit = self.unit_row(book, k);
             let half = 1 << k;
-            // stays: rows by index; after a `split_at_mut` one of the two would still go by index, as in `sum_of`
+            // stays: rows by index and by value. Of two parts of a field by `split_at_mut` a proof knows no row that the loop
+            // leaves in them, and a row that is copied and then added to in its place takes more instructions
             for u in 0..half {
                 self.leaders[half + u] = sum_of(self.leaders[u], &unit);
             }
@@ -93,10 +97,11 @@ impl Tables {
         let n = 1 << self.degree;
         let period = n - 1;
         let mut unit = [0; 128];
-        // stays: places by index, as in `sum_of`
+        // stays: one of the two arrays goes by index, whichever the loop walks; and `array::from_fn` would work out all 128 places
         for (p, index) in self.at[..n].iter().enumerate() {
             if *index > 0 {
                 let j = usize::from(*index) - 1 + k;
+                // stays: counted round by hand, since the books' own way to read a trace is for a lawful book, and this may be any
                 unit[p] = book.traces[if j < period { j } else { j - period }] & 3;
             }
         }

@@ -2,6 +2,7 @@
 use decoder::search::Leader;
 use kerdock::coding::encode;
 use samples::Sample;
+use std::num::TryFromIntError;
 
 // The reading of a symbol: each turn brings that of the symbol before to the front.
 fn reading<S: Sample>(mut x: S, symbol: u8) -> i64 {
@@ -26,13 +27,15 @@ struct Ranked {
     rival: i64,
 }
 
-impl Ranked {
+impl TryFrom<Ranked> for Leader {
+    type Error = TryFromIntError;
+
     // The ranking as the search answers it, where its numbers fit.
-    fn leader(self) -> Option<Leader> {
-        Some(Leader {
-            message: self.message,
-            score: i32::try_from(self.score).ok()?,
-            margin: u32::try_from(self.score.checked_sub(self.rival)?).ok()?,
+    fn try_from(best: Ranked) -> Result<Leader, TryFromIntError> {
+        Ok(Leader {
+            message: best.message,
+            score: i32::try_from(best.score)?,
+            margin: u32::try_from(best.score.abs_diff(best.rival))?,
         })
     }
 }
@@ -42,12 +45,13 @@ pub(crate) fn by_definition<S: Sample>(degree: u8, sums: &[S]) -> Option<Leader>
     let n = sums.len();
     let mut memory = [0u8; 128];
     let word = memory.get_mut(..n)?;
+    // stays: two scores below all others, so that the first message takes the lead as any other does, with no `Option` to ask
     let mut top = Ranked {
         message: 0,
         score: i64::MIN,
         rival: i64::MIN,
     };
-    for message in 0..(4 * n * n) as u32 {
+    for message in 0..u32::try_from(4 * n * n).ok()? {
         encode(degree, message, word).ok()?;
         let score = score(sums, word);
         if score > top.score {
@@ -60,5 +64,5 @@ pub(crate) fn by_definition<S: Sample>(degree: u8, sums: &[S]) -> Option<Leader>
             top.rival = top.rival.max(score);
         }
     }
-    top.leader()
+    Leader::try_from(top).ok()
 }

@@ -4,12 +4,15 @@ use crate::definition::by_definition;
 use samples::{Complex, Phase, Sample};
 
 /// A kind of samples that is drawn from random bits.
+// stays: the transforms draw loud samples, each number from a word of its own; here they are small, so that scores are often equal
 pub(crate) trait Drawn: Sample {
+    /// The sample that a word of random bits gives.
     fn drawn(word: u32) -> Self;
 }
 
 // From -8 to 7: few enough that equal scores come often.
 fn small(word: u32) -> i32 {
+    // stays: what is cast is below 16, so `as` loses nothing
     (word % 16) as i32 - 8
 }
 
