@@ -9,7 +9,7 @@ fn spread(i: usize) -> i32 {
 }
 
 /// Fills the memory with samples whose parts differ.
-pub fn fill<S: Stored>(samples: &mut [S]) {
+pub(crate) fn fill<S: Stored>(samples: &mut [S]) {
     for (i, sample) in samples.iter_mut().enumerate() {
         for (k, step) in [1, 5, 11, 7].into_iter().take(S::parts()).enumerate() {
             *sample = sample.with_part(k, spread(i % 64 * step));
@@ -18,7 +18,7 @@ pub fn fill<S: Stored>(samples: &mut [S]) {
 }
 
 /// Changes a part of a sample, if there is one; of a number that is too large, the last part.
-pub fn put<S: Stored>(sample: Option<&mut S>, part: usize, value: i32) {
+pub(crate) fn put<S: Stored>(sample: Option<&mut S>, part: usize, value: i32) {
     if let Some(sample) = sample {
         *sample = sample.with_part(part, value);
     }
