@@ -19,7 +19,7 @@ impl Stage {
     pub(crate) fn admit(self, call: Call) -> Result<(), Denial>
         ensures { result ≡ admitted self call }
     {
-        // stays: the stage is matched together with the call that arrives, so that each pair has its line
+        // stays: by the rule of the bay the stage is matched together with the call that arrives
         match (self, call) {
             (Stage::Shut, _) => Err(Denial::Shut),
             (Stage::Gathering, Call::Take | Call::Decide | Call::Clear) => Ok(()),

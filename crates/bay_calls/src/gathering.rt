@@ -26,7 +26,7 @@ impl<'a, S: Sample> Bay<'a, S> {
         if reception.len() != self.sums.len() {
             return Err(Denial::Length);
         }
-        // stays: what is found is denied; `map_or(Ok(()), ..)?` would say the same the other way round
+        // stays: what is found is denied here, midway; `map_or(Ok(()), ..)?` is no plainer
         if let Some(i) = first_above(reception, 32767) {
             return Err(Denial::TooLarge(i));
         }

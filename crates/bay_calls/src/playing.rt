@@ -69,7 +69,7 @@ fn reason(refused: Refused) -> Denial
 }
 
 /// One dealing: a verdict is made of its numbers for it, and ends with it.
-// stays: the bay, the pool and the work memory go together, but each is lent by the caller, and the bay alone keeps anything
+// stays: bay, work memory and pool are three loans, which a struct would join for two functions only and take apart in each
 fn play_one<S: Sample>(bay: &mut Bay<S>, work: &mut [S], pool: &[S], dealing: Dealing) -> Answer
     ensures deals { Deals (state S.Sample bay.old) (meant S.Sample pool.now (length work.old) dealing) (told result) (state S.Sample bay.new) }
     ensures unmoved { OnErr result (bay.new ≡ bay.old) }

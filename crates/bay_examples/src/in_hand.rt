@@ -1,7 +1,7 @@
 //! Calls on a bay whose verdict is in hand. The verdict that is out is surely taken by its own bay, and until it is, take,
 //! decide and clear are surely denied; so no case is left over here.
-// stays: each call has a function whose contract hands the fact `Out` on, since from the bare calls alone no proof is found;
-// a struct of the bay and the verdict with `Out` as a ghost field would have to keep it after the answer too, when it is over
+// stays: each call has a function whose contract hands the fact `Out` on, since it does not reach the next call from the bare
+// one; a struct that lends the bay beside the verdict would owe `Out` of it after the answer, too
 ghost use Rattle.bay_calls.specs.Seen.{state};
 ghost use Rattle.bay_examples.specs.Owing.{Out, Owed};
 

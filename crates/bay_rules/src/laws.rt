@@ -1,4 +1,5 @@
 //! The laws of a bay with its code book, for every run and every kind of samples; and that the rules give one answer.
+//! The first three are laws of the crate `bay`, too, over its state, which has no book.
 ghost use Rattle.std.specs.Prelude.{◌≡◌};
 ghost use Rattle.bay.specs.Rules.{Run, Dealing, Answer, Opening, Rightly};
 ghost use Rattle.bay.specs.Rules.Run.{Opened};

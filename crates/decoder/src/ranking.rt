@@ -23,7 +23,7 @@ pub(crate) struct Best {
 impl Best {
     // No message so far: every score within the kinds' limit is above these, so that the first message takes the lead as any
     // other does.
-    // stays: two scores below all others, since an `Option<Best>` would be asked anew at every place
+    // stays: two scores below all within the limit, since an `Option<Best>` would be asked anew at every place
     pub(crate) fn nobody() -> Best
         ensures { (n : ℕ) (f : ℕ → ℤ) (key : ℕ → ℕ) → ((k : ℕ) → k < n → unsigned_abs (f k) ≤ limit) → Ranked n f key 0 result }
     {

@@ -55,6 +55,7 @@ pub fn clean<S: Sample>(work: &mut [S])
 ///
 /// The sums stay as they are, and the work memory is left as zeros; where nothing is answered, nothing is written.
 /// Any number may be handed in as the degree: to one that is not in the table the answer is `None`.
+// stays: so the degree is a number
 pub fn search<S: Sample>(degree: u8, book: &CodeBook, sums: &[S], work: &mut [S]) -> Option<Leader>
     ensures { Searched S.Sample degree book.now sums.now work.old result work.new }
 {

@@ -56,7 +56,7 @@ impl Tables {
     ghost use Rattle.decoder.specs.Tables.{Holds};
 
     // Tables to be filled.
-    // stays: two steps, since one `new` would copy the 16,384 bytes of the leaders as it returned them
+    // stays: zeros are made where the tables lie; a `new` that filled them first was measured to copy 16,384 bytes as it returned
     pub(crate) fn blank(degree: usize) -> Tables
         requires two { 2 ≤ degree }
         requires seven { degree ≤ 7 }
@@ -81,7 +81,7 @@ impl Tables {
             let unit = self.unit_row(book, k);
             let half = 1 << k;
             // stays: rows by index and by value. Of two parts of a field by `split_at_mut` a proof knows no row that the loop
-            // leaves in them, and a row that is copied and then added to in its place takes more instructions
+            // leaves in them; and copied into its place first and added to there, a row takes more instructions
             for u in 0..half {
                 self.leaders[half + u] = sum_of(self.leaders[u], &unit);
             }
@@ -97,7 +97,8 @@ impl Tables {
         let n = 1 << self.degree;
         let period = n - 1;
         let mut unit = [0; 128];
-        // stays: one of the two arrays goes by index, whichever the loop walks; and `array::from_fn` would work out all 128 places
+        // stays: the row goes by index, since of `iter_mut().zip(..)` a proof knows no symbol that it leaves; and `array::from_fn` would
+        // work out all 128 places
         for (p, index) in self.at[..n].iter().enumerate() {
             if *index > 0 {
                 let j = usize::from(*index) - 1 + k;
@@ -116,7 +117,7 @@ impl Tables {
         ensures { (p : ℕ) → p < length work.new → slice_index_or work.new p S.zeroed ≡ times S.Sample ((4 - slice_index (slice_index_or self.now.leaders u []) p) % 4) (slice_index_or sums.now (slice_index self.now.at p) S.zeroed) }
     {
         let leader = &self.leaders[u];
-        // stays: places by index, as in `sum_of`
+        // stays: leader and index go by place, since of `iter_mut().zip(..)` a proof knows no sample that it leaves
         for (p, sample) in work.iter_mut().enumerate() {
             let x = sums[usize::from(self.at[p])];
             let y = x.turn();

@@ -10,6 +10,7 @@ use std::fmt;
 #[derive(Clone, Copy, PartialEq, Eq, Debug)]
 pub struct Denied {
     pub number: u8,
+    // stays: 0 where there is no place, since it is printed so
     pub place: usize,
 }
 

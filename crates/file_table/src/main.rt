@@ -45,7 +45,7 @@ fn say_write(rt: &HostRuntime, answer: Result<usize, Refusal>) -> io::Result<()>
 }
 
 /// Ends a line with the check of a file in which these bytes are overwritten; the last of the bytes stands behind the file.
-// stays: how long the bytes are is a const parameter, of which no type of its own could say more than `8 < N`
+// stays: `8 < N` is one comparison of a const parameter; a type that said it would be longer than the clauses
 fn say_changed<const N: usize>(
     rt: &HostRuntime,
     bytes: &[u8; N],

@@ -36,6 +36,7 @@ impl Code {
             return first;
         }
         // the traces from that of this index on, where the first comes again after the last
+        // stays: the places of the book walk round so, too, and a function cannot hand out the iterator
         let once = Traces::new(&self.row, &self.book.traces).once;
         let others: u8 = once[index - 1..]
             .iter()

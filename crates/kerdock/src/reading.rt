@@ -72,7 +72,7 @@ pub fn read_back(degree: u8, list: &[u8]) -> Result<u32, Refusal>
     if list.len() != row.length {
         return Err(Refusal::Memory);
     }
-    // stays: what is found is refused, and `ok_or` goes the other way
+    // stays: what is found is refused here, midway; `map_or(Ok(()), ..)?` is no plainer
     if let Some(index) = first_above(list) {
         return Err(Refusal::Symbol(index));
     }

@@ -5,6 +5,7 @@ ghost use Rattle.kerdock.specs.Table.{row_of, known};
 ghost use Rattle.kerdock.specs.Rows.{RowIs};
 
 // One degree: N, the first traces, and the coefficients of the recurrence, lowest first, as many of each as the degree says.
+// stays: the degree stands beside slices of its length, since it names the row
 #[derive(Clone, Copy)]
 pub(crate) struct TableRow {
     pub(crate) degree: usize,
@@ -54,7 +55,7 @@ impl TableRow {
 }
 
 // The row of a degree.
-// stays: any number may be asked for, since it is here that a degree the table lacks is refused
+// stays: any number may be asked for; for a degree that the table lacks there is no row
 #[tactic(auto, unfolding(crate::specs::Table::known, crate::specs::Table::row_of))]
 pub(crate) fn row_of(degree: u8) -> Option<TableRow>
     ensures { MatchOption result (¬ IsTrue (known degree)) (λ row. row.degree ≡ degree) }

@@ -19,6 +19,7 @@ impl Degree {
         ensures is { result ≡ samples_of (degree_number self) }
         ensures most { result ≤ 128 }
     {
+        // stays: the code, which has the same lengths, stands beside this crate and not below it
         match self {
             Degree::Three => 8,
             Degree::Five => 32,

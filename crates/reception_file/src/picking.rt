@@ -26,7 +26,7 @@ fn read_samples<S: Stored>(parts: &[[u8; 2]], memory: &mut [S])
     requires { length parts.now ≡ length memory.old * S.Stored.width }
     ensures { Reads S.Sample S.Stored.own parts.now memory.new }
 {
-    // stays: zipped with `chunks_exact` in place of the index, the loop tells a proof nothing of what it leaves in the memory
+    // stays: the parts go by index, since of `iter_mut().zip(..)` a proof knows no sample that it leaves
     for (i, sample) in memory.iter_mut().enumerate() {
         let first = i * S::parts();
         *sample = sample_from(&parts[first..first + S::parts()]);

@@ -12,6 +12,7 @@ use crate::refusal::Refusal;
 use crate::stored::Stored;
 
 /// Refuses the first part of the samples that is not allowed.
+// stays: the check of a file asks the same of pairs of bytes, which are no samples yet
 fn check_samples<S: Stored>(samples: &[S]) -> Result<(), Refusal>
     requires { length samples.now * S.Stored.width < 2 ^ 32 }
     ensures { Quiet (part_of S.Sample S.Stored.own samples.now) (length samples.now * S.Stored.width) result }

@@ -44,7 +44,7 @@ pub(crate) fn passes<S: Sample>(w: &mut [S], degree: usize)
     ensures exact { (v : ℕ) → v < length w.old → at S.Sample w.new v ≡ after S.Sample w.old degree v }
     ensures sums { (b : ℕ) → Within S.Sample b w.old → length w.old * b ≤ limit → Transformed S.Sample w.old w.new }
 {
-    // stays: each pass goes over blocks twice as wide as the one before, and the width is what the next one is handed
+    // stays: a width that doubles says what one pass hands the next; a shift by the number of the pass would be no shorter
     let mut h = 1;
     for _ in 0..degree {
         let width = 2 * h;

@@ -3,7 +3,7 @@ ghost use Rattle.std.specs.Prelude.{◌≡◌, length};
 ghost use Rattle.samples.specs.Examples.{rows, Examples};
 
 /// How many worked examples there are; each of them stands.
-// stays: how many there are is what this answers; the contract has it equal to the length of the list
+// stays: this public call answers the number; its contract has it equal to the length of the list
 pub fn examples_stand() -> u8
     ensures count { result ≡ length rows }
     ensures all { Examples }

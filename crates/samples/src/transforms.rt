@@ -22,13 +22,14 @@ pub fn transform<S: Sample>(w: &mut [S]) -> Result<(), Refusal>
     ensures { Answered S.Sample w.old result w.new }
 {
     // each length is 2 to the power of its degree
+    // stays: this crate stands below those of the code and of files, which have the same lengths in tables of their own
     let degree = match w.len() {
         8 => 3,
         32 => 5,
         128 => 7,
         _ => return Err(Refusal::Length),
     };
-    // stays: what is found is refused; `map_or(Ok(()), ..)?` would say the same the other way round
+    // stays: what is found is refused here, midway; `map_or(Ok(()), ..)?` is no plainer
     if let Some(i) = first_above(w, LOUDEST) {
         return Err(Refusal::Size(i));
     }

@@ -2,7 +2,7 @@
 use samples::{Complex, Phase, Sample};
 
 /// A kind of which samples can be drawn.
-// stays: the verdicts draw small numbers from other bits, one word a sample; the samples here are as loud as a reception's
+// stays: the verdicts draw small numbers from other bits, one word a sample; here each part has a word of its own, and any 16 bits
 pub trait Drawn: Sample {
     /// The sample that a word of random bits gives.
     fn drawn(word: u32) -> Self;
@@ -15,7 +15,7 @@ fn next(word: u32) -> u32 {
 
 // The upper half of a word, from -32,768 to 32,767.
 fn number(word: u32) -> i32 {
-    // stays: the half of a word is below 65,536, so `as` loses nothing
+    // stays: the half of a word is below 65,536, so `as` loses nothing, and `try_from` would answer an error that cannot come
     (word / 65536) as i32 - 32768
 }
 

@@ -35,7 +35,7 @@ fn agrees(rt: &HostRuntime, heap: Global, number: u32, line: &str) -> anyhow::Re
 
 fn run(rt: &HostRuntime) -> anyhow::Result<()> {
     let heap = rt.alloc();
-    // stays: how many lines come has no bound that a proof could know, so both counts stop at the largest number
+    // stays: counted by hand, since a number from `enumerate` would need a bound of the lines, and none is known
     let mut cases: u32 = 0;
     let mut agree: u32 = 0;
     for line in BufReader::new(heap, rt.stdin())?.lines(heap) {

@@ -20,6 +20,7 @@ fn score<S: Sample>(sums: &[S], word: &[u8]) -> i64 {
 }
 
 // The best message so far, its score, and the best score of any other.
+// stays: like what the search keeps, but what checks the search uses nothing of it
 #[derive(Clone, Copy, PartialEq, Eq, Debug)]
 struct Ranked {
     message: u32,

@@ -12,7 +12,7 @@ pub(crate) trait Drawn: Sample {
 
 // From -8 to 7: few enough that equal scores come often.
 fn small(word: u32) -> i32 {
-    // stays: what is cast is below 16, so `as` loses nothing
+    // stays: what is cast is below 16, so `as` loses nothing, and `try_from` would answer an error that cannot come
     (word % 16) as i32 - 8
 }
 
@@ -53,6 +53,7 @@ impl Draws {
 pub(crate) fn agreeing<S: Drawn, const N: usize>(degree: u8, runs: u32, mut sums: [S; N]) -> u32 {
     let mut draws = Draws(1);
     let mut work = sums;
+    // stays: a tally of draws that follow on one another, which `filter` and `count` would hide
     let mut count = 0;
     for _ in 0..runs {
         draws.fill(&mut sums);
