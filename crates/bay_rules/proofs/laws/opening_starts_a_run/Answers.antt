@@ -1,5 +1,0 @@
-use Rattle.bay_rules.proofs.Starting.{starts}
-use Rattle.bay_rules.proofs.laws.opening_starts_a_run.Goals as goal
-
-pub returns : goal.returns
-returns c = starts
