@@ -102,7 +102,7 @@ impl Tables {
         for (p, index) in self.at[..n].iter().enumerate() {
             if *index > 0 {
                 let j = usize::from(*index) - 1 + k;
-                // stays: counted round by hand, since the books' own way to read a trace is for a lawful book, and this may be any
+                // stays: counted round by hand, since a book has each trace once, and any bytes may stand in it
                 unit[p] = book.traces[if j < period { j } else { j - period }] & 3;
             }
         }

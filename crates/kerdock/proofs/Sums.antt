@@ -3,7 +3,9 @@ use Rattle.std.proofs.Common.{◌≡◌, ℕ, zero, suc, ◌+◌, ◌*◌, ◌/�
 use native.Mathlib.Nat.{add-mod, add-mod-mod, mod-add-mod, mod-add-div, zero-mod}
 use Rattle.std.proofs.lemmas.Bool.{cases_lt}
 use Rattle.std.proofs.lemmas.List.Sums.{sum_by-cons}
-use Rattle.std.specs.List.{zip, sum_by, range_with_len}
+use Rattle.std.proofs.lemmas.List.{get_or_default}
+use Rattle.std.proofs.lemmas.List.FromFn.{length-enumerate_from, get_or-enumerate_from}
+use Rattle.std.specs.List.{zip, sum_by, range_with_len, enumerate_from}
 use Rattle.kerdock.specs.Code.{sum_to}
 
 -- equal terms, equal sums
@@ -106,3 +108,23 @@ sum_of_numbered f (x ∷ xs) a (suc n) h =
     (sum_of_numbered f xs (a + 1) n (omega arith)
     ∙ sum_same (λ k. f (get_or xs k 0, a + 1 + k)) (λ k. f (get_or xs k 0, a + suc k)) n (λ k b. ap (λ (y : ℕ). f (get_or xs k 0, y)) (omega arith)))
     ∙ sym (sum_front (λ k. f (get_or (x ∷ xs) k 0, a + k)) n)
+
+-- a sum over a list whose entries are counted from a on
+pub sum_of_counted : (f : ℕ × ℕ → ℕ) (xs : List ℕ) (a : ℕ) → sum_by f (enumerate_from a xs) ≡ sum_to (λ k. f (a + k, get_or xs k 0)) (length xs)
+sum_of_counted f [] a = refl
+sum_of_counted f (x ∷ xs) a =
+    sum_by-cons f (a, x) (enumerate_from (a + 1) xs)
+    ∙ ap₂ (λ (y s : ℕ). y + s) (ap (λ (y : ℕ). f (y, x)) (sym (add-zero a)))
+    (sum_of_counted f xs (a + 1)
+    ∙ sum_same (λ k. f (a + 1 + k, get_or xs k 0)) (λ k. f (a + suc k, get_or xs k 0)) (length xs) (λ k b. ap (λ (y : ℕ). f (y, get_or xs k 0)) (omega arith)))
+    ∙ sym (sum_front (λ k. f (a + k, get_or (x ∷ xs) k 0)) (length xs))
+
+-- an entry of a list, counted from 0 on
+pub counted : (xs : List ℕ) (x y k : ℕ) → k < length (enumerate_from 0 xs) → ◌≡◌ {A = ℕ × ℕ} (y, x) (get_or (enumerate_from 0 xs) k (y, x)) →
+    (x ≡ get_or xs y 0) × (y < length xs)
+counted xs x y k h e =
+    let l = length-enumerate_from 0 xs in
+    let b : k < length xs = omega arith in
+    let at = e ∙ get_or-enumerate_from 0 xs k (y, x) b in
+    let number : y ≡ k = ap (λ (p : ℕ × ℕ). p.0) at ∙ (omega arith) in
+    (ap (λ (p : ℕ × ℕ). p.1) at ∙ get_or_default xs k x 0 b ∙ ap (λ (i : ℕ). get_or xs i 0) (sym number), omega arith)

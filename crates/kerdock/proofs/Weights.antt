@@ -7,6 +7,7 @@ pub record Weighed (b n w s x k : ℕ) : Type 0 where
   pub light : w ≤ b ^ n
   pub within : w * x + w ≤ w * b
   pub room : s + w * x < b ^ (k + 1)
+  pub next : w * b ≡ b ^ (k + 1)
 
 pub weighed : (b n w s x k : ℕ) → w ≡ b ^ k → s < b ^ k → x < b → 0 < b → k ≤ n → Weighed b n w s x k
 weighed b n w s x k e h c p d =
@@ -14,7 +15,7 @@ weighed b n w s x k e h c p d =
     let less : b ^ k ≤ b ^ n = pow-le-pow_right p d in
     let times : w * suc x ≤ w * b = mul-le-mul_left w c in
     let parts = mul-suc w x in
-    record { light = omega arith; within = omega arith; room = omega arith }
+    record { light = omega arith; within = omega arith; room = omega arith; next = up }
 
 pub bit_times : (w x : ℕ) → x < 2 → w * x ≤ w
 bit_times w x h =

@@ -1,11 +1,11 @@
 //! Code books: the traces and places of one degree, filled into the caller's memory.
-ghost use Rattle.std.specs.Prelude.{◌≡◌, ℕ, suc, ◌+◌, ◌*◌, ◌%◌, ◌<◌, ◌≤◌, IsTrue, if◌then◌else◌, Ok, Err, length, slice_index};
-ghost use Rattle.kerdock.specs.Code.{t, place, period, size};
+ghost use Rattle.std.specs.Prelude.{◌≡◌, ℕ, IsTrue, if◌then◌else◌, Ok, Err, slice_index};
 ghost use Rattle.kerdock.specs.Table.{row_of, known};
 ghost use Rattle.kerdock.specs.Books.{Lawful};
 
+use crate::code::Code;
 use crate::refusals::Refusal;
-use crate::rows::{TableRow, row_of};
+use crate::rows::row_of;
 
 /// A plain record: any values may stand in it, and a lawful one holds a degree's N - 1 traces and N places, then zeros.
 // stays: two arrays as long as the largest degree needs, filled in the caller's place with no heap
@@ -26,51 +26,17 @@ impl CodeBook {
         }
     }
 
-    // Fills the book for a row.
-    pub(crate) fn fill(&mut self, row: &TableRow)
-        ensures { Lawful (row_of row.now.degree) self.new }
+    // Fills the book of a code's degree.
+    pub(crate) fn fill(&mut self, code: &Code)
+        ensures { Lawful (row_of code.now.row.degree) self.new }
     {
-        row.fill_traces(&mut self.traces);
-        let traces = Traces::new(row, &self.traces);
+        let period = code.row.length - 1;
+        self.traces = [0; 127];
+        self.traces[..period].copy_from_slice(&code.traces[..period]);
         self.places = [0; 128];
-        for (j, place) in self.places[1..row.length].iter_mut().enumerate() {
-            *place = traces.place(j);
+        for (j, place) in self.places[1..code.row.length].iter_mut().enumerate() {
+            *place = code.place(j);
         }
-    }
-}
-
-// The N - 1 traces of a row, which repeat after the last.
-#[derive(Clone, Copy)]
-pub(crate) struct Traces<'a> {
-    row: &'a TableRow,
-    pub(crate) once: &'a [u8],
-    ghost long: { length once.now ≡ period (row_of row.now.degree) },
-    ghost filled: { (k : ℕ) → k < period (row_of row.now.degree) → slice_index once.now k ≡ t (row_of row.now.degree) k },
-}
-
-impl<'a> Traces<'a> {
-    // The traces of a book in which they stand.
-    pub(crate) fn new(row: &'a TableRow, traces: &'a [u8; 127]) -> Traces<'a>
-        requires { (k : ℕ) → k < period (row_of row.now.degree) → slice_index traces.now k ≡ t (row_of row.now.degree) k }
-        ensures { result.row.now ≡ row.now }
-    {
-        Traces {
-            row,
-            once: &traces[..row.length - 1],
-        }
-    }
-
-    // The place of index j + 1: bit k is the lowest bit of trace j + k, where the first trace comes again after the last.
-    fn place(&self, j: usize) -> u8
-        requires { j < period (row_of self.now.row.now.degree) }
-        ensures { result ≡ place (row_of self.now.row.now.degree) (suc j) }
-    {
-        self.once[j..]
-            .iter()
-            .chain(self.once)
-            .zip(0..self.row.degree)
-            .map(|(&trace, k)| (trace % 2) << k)
-            .sum()
     }
 }
 
@@ -81,6 +47,6 @@ pub fn make_book(degree: u8, book: &mut CodeBook) -> Result<(), Refusal>
     ensures kept { ¬ IsTrue (known degree) → book.new ≡ book.old }
 {
     let row = row_of(degree).ok_or(Refusal::Degree)?;
-    book.fill(&row);
+    book.fill(&Code::new(row));
     Ok(())
 }

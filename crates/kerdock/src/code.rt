@@ -1,29 +1,49 @@
-//! The code of one degree: the words of its messages, and the indices of its places.
-ghost use Rattle.std.specs.Prelude.{◌≡◌, ◌<◌, length};
-ghost use Rattle.kerdock.specs.Code.{size, symbol, place};
+//! The code of one degree: its traces, the places of its indices, and the words of its messages.
+ghost use Rattle.std.specs.Prelude.{◌≡◌, ℕ, suc, ◌+◌, ◌<◌, length, slice_index};
+ghost use Rattle.kerdock.specs.Code.{t, period, size, symbol, place};
 ghost use Rattle.kerdock.specs.Table.{row_of};
-ghost use Rattle.kerdock.specs.Books.{Lawful};
 ghost use Rattle.kerdock.specs.Calls.{Spells};
 
-use crate::books::{CodeBook, Traces};
 use crate::messages::digit;
 use crate::rows::TableRow;
 
-// A row of the table and its book.
+// A row of the table and its traces, as far as places and symbols read them: the N - 1, and then the first ones again.
 #[derive(Drop)]
 pub(crate) struct Code {
     pub(crate) row: TableRow,
-    book: CodeBook,
-    ghost lawful: { Lawful (row_of row.degree) book },
+    pub(crate) traces: [u8; 134],
+    ghost filled: { (k : ℕ) → k < period (row_of row.degree) + row.degree → slice_index traces k ≡ t (row_of row.degree) k },
 }
 
 impl Code {
     pub(crate) fn new(row: TableRow) -> Code
         ensures { result.row ≡ row }
     {
-        let mut book = CodeBook::blank();
-        book.fill(&row);
-        Code { row, book }
+        Code {
+            traces: row.traces(),
+            row,
+        }
+    }
+
+    // The traces from number j on, as many as the degree says.
+    fn traces_from(&self, j: usize) -> &[u8]
+        requires { j < period (row_of self.now.row.degree) }
+        ensures long { length result.now ≡ self.now.row.degree }
+        ensures each { (k : ℕ) → k < self.now.row.degree → slice_index result.now k ≡ t (row_of self.now.row.degree) (j + k) }
+    {
+        &self.traces[j..j + self.row.degree]
+    }
+
+    // The place of index j + 1: bit k is the lowest bit of trace j + k.
+    pub(crate) fn place(&self, j: usize) -> u8
+        requires { j < period (row_of self.now.row.degree) }
+        ensures { result ≡ place (row_of self.now.row.degree) (suc j) }
+    {
+        self.traces_from(j)
+            .iter()
+            .enumerate()
+            .map(|(k, &trace)| (trace % 2) << k)
+            .sum()
     }
 
     // The symbol of a message's word at one index, by the trace rule.
@@ -35,14 +55,11 @@ impl Code {
         if index == 0 {
             return first;
         }
-        // the traces from that of this index on, where the first comes again after the last
-        // stays: the places of the book walk round so, too, and a function cannot hand out the iterator
-        let once = Traces::new(&self.row, &self.book.traces).once;
-        let others: u8 = once[index - 1..]
+        let others: u8 = self
+            .traces_from(index - 1)
             .iter()
-            .chain(once)
-            .zip(0..self.row.degree)
-            .map(|(&trace, k)| digit(message, k + 1) * trace)
+            .enumerate()
+            .map(|(k, &trace)| digit(message, k + 1) * trace)
             .sum();
         (first + others) % 4
     }
@@ -55,15 +72,5 @@ impl Code {
         for (index, symbol) in word.iter_mut().enumerate() {
             *symbol = self.symbol(message, index);
         }
-    }
-
-    // The index of a place.
-    pub(crate) fn index_of(&self, wanted: u8) -> usize
-        requires { wanted < size (row_of self.now.row.degree) }
-        ensures inside { result < size (row_of self.now.row.degree) }
-        ensures found { place (row_of self.now.row.degree) result ≡ wanted }
-    {
-        let places = &self.book.places[..self.row.length];
-        places.iter().position(|&place| place == wanted).unwrap()
     }
 }

@@ -2,8 +2,10 @@
 ghost use Rattle.std.specs.Prelude.{◌≡◌, ℕ, suc, ◌+◌, ◌-◌, ◌*◌, ◌/◌, ◌%◌, ◌^◌, ◌<◌, ◌≤◌, ◌↔◌, IsTrue, MatchOption, length, slice_index};
 ghost use Rattle.kerdock.specs.Code.{size, symbol, messages, place, sum_to};
 ghost use Rattle.kerdock.specs.Table.{row_of};
+ghost use Rattle.kerdock.specs.Books.{Lawful};
 ghost use Rattle.kerdock.specs.Calls.{Spells, FirstAbove, ReadBack, WrittenAgain};
 
+use crate::books::CodeBook;
 use crate::code::Code;
 use crate::refusals::Refusal;
 use crate::rows::row_of;
@@ -15,16 +17,28 @@ fn first_above(list: &[u8]) -> Option<usize>
     list.iter().position(|&symbol| symbol > 3)
 }
 
-// A list of N symbols, none above 3, beside the code that it is read in.
+// A list of N symbols, none above 3, beside the code that it is read in and the book of its degree.
 #[derive(Clone, Copy)]
 struct Reading<'a> {
     code: &'a Code,
+    book: CodeBook,
     list: &'a [u8],
+    ghost lawful: { Lawful (row_of code.now.row.degree) book },
     ghost long: { length list.now ≡ size (row_of code.now.row.degree) },
     ghost small: { (k : ℕ) → slice_index list.now k ≤ 3 },
 }
 
 impl Reading<'_> {
+    // The index of a place.
+    fn index_of(&self, wanted: u8) -> usize
+        requires { wanted < size (row_of self.now.code.now.row.degree) }
+        ensures inside { result < size (row_of self.now.code.now.row.degree) }
+        ensures found { place (row_of self.now.code.now.row.degree) result ≡ wanted }
+    {
+        let places = &self.book.places[..self.code.row.length];
+        places.iter().position(|&place| place == wanted).unwrap()
+    }
+
     // How far the list lies above the word of `known` at the index whose place is one bit, read as one bit for each bit of a place:
     // the quotient by `divisor` modulo 2. Bit k stands as the base-4 digit k + 1 of the answer.
     fn bits_above(&self, known: u32, divisor: u8) -> u32
@@ -35,7 +49,7 @@ impl Reading<'_> {
         let mut sum = 0;
         // stays: k is a bit of a place, and there is no slice to go along
         for k in 0..self.code.row.degree {
-            let at = self.code.index_of(1 << k);
+            let at = self.index_of(1 << k);
             let above = (self.list[at] + 4 - self.code.symbol(known, at)) % 4;
             sum += u32::from(above / divisor % 2) << (2 * (k + 1));
         }
@@ -77,7 +91,13 @@ pub fn read_back(degree: u8, list: &[u8]) -> Result<u32, Refusal>
         return Err(Refusal::Symbol(index));
     }
     let code = Code::new(row);
-    let reading = Reading { code: &code, list };
+    let mut book = CodeBook::blank();
+    book.fill(&code);
+    let reading = Reading {
+        code: &code,
+        book,
+        list,
+    };
     let message = reading.candidate();
     if reading.is_word_of(message) {
         Ok(message)

@@ -1,5 +1,5 @@
 //! The degree table, as the code reads it.
-ghost use Rattle.std.specs.Prelude.{◌≡◌, ℕ, ◌*◌, ◌%◌, ◌<◌, ◌≤◌, IsTrue, length, MatchOption, slice_index};
+ghost use Rattle.std.specs.Prelude.{◌≡◌, ℕ, ◌+◌, ◌*◌, ◌%◌, ◌<◌, ◌≤◌, IsTrue, length, MatchOption, slice_index};
 ghost use Rattle.kerdock.specs.Code.{t, period, messages, sum_to};
 ghost use Rattle.kerdock.specs.Table.{row_of, known};
 ghost use Rattle.kerdock.specs.Rows.{RowIs};
@@ -39,18 +39,18 @@ impl TableRow {
             % 4
     }
 
-    // Fills in the traces, and zeros past them.
-    pub(crate) fn fill_traces(&self, traces: &mut [u8; 127])
-        ensures filled { (j : ℕ) → j < period (row_of self.now.degree) → slice_index traces.new j ≡ t (row_of self.now.degree) j }
-        ensures past { (j : ℕ) → period (row_of self.now.degree) ≤ j → slice_index traces.new j ≡ 0 }
+    // The traces, the N - 1 and then the first ones again, as many as the degree says.
+    pub(crate) fn traces(&self) -> [u8; 134]
+        ensures { (j : ℕ) → j < period (row_of self.now.degree) + self.now.degree → slice_index result j ≡ t (row_of self.now.degree) j }
     {
         let degree = self.first.len();
-        *traces = [0; 127];
+        let mut traces = [0; 134];
         traces[..degree].copy_from_slice(self.first);
         // stays: each trace is worked out from those just before it in the same array, so the loop goes by index
-        for j in degree..self.length - 1 {
+        for j in degree..self.length - 1 + degree {
             traces[j] = self.next_trace(&traces[j - degree..j]);
         }
+        traces
     }
 }
 
