@@ -1,12 +1,12 @@
 -- Nothing that is asked for a file that was accepted is refused.
-use Rattle.std.proofs.Common.{◌≡◌, ℕ, ◌^◌, ◌<◌, ◌≤◌, true, false, eqb, List, length, None, sym, refl, ◌∙◌, subst, inl, inr, arith, eq-eqb, ne_eqb}
+use Rattle.std.proofs.Common.{◌≡◌, ℕ, Ok, Err, Result, IsOk, ◌^◌, ◌<◌, ◌≤◌, true, false, eqb, List, length, None, sym, refl, ◌∙◌, subst, inl, inr, arith, eq-eqb, ne_eqb}
 use Rattle.samples.specs.Sizes.{Within}
 use Rattle.samples.specs.declared.sample.Sample.{Ghosts}
 use Rattle.kerdock.specs.Code.{size}
 use Rattle.kerdock.specs.Table.{row_of, known}
 use Rattle.decoder.specs.Search.{meanings}
 use Rattle.reception_file.specs.Layout.{at, samples_of, GoodDegree}
-use Rattle.reception_file.specs.Pick.{Unfit}
+use Rattle.reception_file.specs.Pick.{Picked, PicksFrom, Unfit}
 use Rattle.reception_file.specs.declared.refusal.Refusal.{Refusal}
 use Rattle.reception_file.specs.declared.refusal.Refusal.TheVariants.{Memory, Short, Mark, Version, Kind, Degree, Count, Length, Part, Reception, Room}
 use Rattle.reception_file.specs.declared.stored.Stored.{Ghosts as StoredGhosts}
@@ -63,6 +63,18 @@ module _ {S : Type 0} (m : Ghosts S) (t : StoredGhosts S) where
   never_unfit bs r n kind inside long (Length k) u = u
   never_unfit bs r n kind inside long (Part p) u = u
   never_unfit bs r n kind inside long Room u = u
+
+  -- so what picking answers is no refusal
+  pub picks_it : (bs : List ℕ) (r : ℕ) (before after : List S) (a : Result (Unit {0}) Refusal) → PicksFrom m t bs r before a after →
+      at bs 5 ≡ t.code → r < at bs 7 → length before ≡ samples_of (at bs 6) → IsOk a
+  picks_it bs r before after (Ok u) p kind inside long = refl
+  picks_it bs r before after (Err e) p kind inside long = absurd (never_unfit bs r (length before) kind inside long e p.0)
+
+  -- and the memory holds the reception
+  pub picked_so : (bs : List ℕ) (r : ℕ) (before after : List S) (a : Result (Unit {0}) Refusal) (u : Unit {0}) → PicksFrom m t bs r before a after →
+      a ≡ Ok u → Picked m t bs r (at bs 6) after
+  picked_so bs r before after (Ok u) v p e = p.0
+  picked_so bs r before after (Err e) v p q = let z : ◌≡◌ {A = ℕ} 0 1 = cc in absurd (omega arith)
 
   -- and taken, where fewer than sixteen are held
   pub free_take : (bs : List ℕ) (n : ℕ) (h : Run) (xs : List S) → GoodDegree (at bs 6) → out h ≡ None → length (holds h) ≡ n → n < 16 →

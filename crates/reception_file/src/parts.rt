@@ -1,5 +1,6 @@
 //! Parts, each of two bytes.
-ghost use Rattle.std.specs.Prelude.{◌≡◌, ◌-◌, ◌/◌, ◌^◌, ◌<◌, ◌≤◌, length};
+ghost use Rattle.std.specs.Prelude.{◌≡◌, ℕ, ◌-◌, ◌/◌, ◌^◌, ◌<◌, ◌≤◌, length};
+ghost use Rattle.reception_file.specs.Layout.{at};
 ghost use Rattle.reception_file.specs.Check.{Quiet};
 ghost use Rattle.reception_file.specs.Pairs.{pair_part, part_in, PairsOf};
 
@@ -15,11 +16,12 @@ pub(crate) fn part_from(bytes: [u8; 2]) -> i32
     i32::from(i16::from_be_bytes(bytes))
 }
 
-/// The parts of a file, behind the first eight bytes.
+/// The parts of a file, behind the first eight bytes. Each byte of the file is below 256, which a proof cannot see of a slice in a struct.
 pub(crate) fn parts_of(bytes: &[u8]) -> &[[u8; 2]]
     requires { 8 ≤ length bytes.now }
     ensures parts { PairsOf bytes.now result.now }
     ensures many { length result.now ≡ (length bytes.now - 8) / 2 }
+    ensures small { (i : ℕ) → at bytes.now i < 256 }
 {
     bytes[8..].as_chunks().0
 }

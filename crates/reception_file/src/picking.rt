@@ -1,5 +1,6 @@
 //! One reception out of a file.
-ghost use Rattle.std.specs.Prelude.{◌≡◌, ℕ, ◌*◌, ◌<◌, length};
+ghost use Rattle.std.specs.Prelude.{◌≡◌, ℕ, ◌*◌, ◌<◌, length, Ok, OnOk};
+ghost use Rattle.reception_file.specs.Layout.{at};
 ghost use Rattle.reception_file.specs.Pairs.{part_in};
 ghost use Rattle.reception_file.specs.Pick.{Reads, PicksFrom, Picks};
 ghost use Rattle.reception_file.specs.Laws.{WrittenAgain};
@@ -36,7 +37,8 @@ fn read_samples<S: Stored>(parts: &[[u8; 2]], memory: &mut [S])
 impl CheckedFile<'_> {
     /// Leaves one reception of the file in the memory. Receptions are numbered from 0.
     pub fn pick<S: Stored>(self, reception: usize, memory: &mut [S]) -> Result<(), Refusal>
-        ensures { PicksFrom S.Sample S.Stored.own self.entry.bytes.now reception memory.old result memory.new }
+        ensures picks { PicksFrom S.Sample S.Stored.own self.entry.bytes.now reception memory.old result memory.new }
+        ensures written_again { OnOk result (WrittenAgain S.Sample S.Stored.own self.entry.bytes.now (Ok (at self.entry.bytes.now 6))) }
     {
         let head = self.head;
         if head.kind != S::kind() {
