@@ -1,21 +1,13 @@
 //! The best word by the definition: every message is encoded, and the readings at its symbols are added.
+use crate::draws::Drawn;
 use decoder::search::Leader;
 use kerdock::coding::encode;
-use samples::Sample;
 use std::num::TryFromIntError;
 
-// The reading of a symbol: each turn brings that of the symbol before to the front.
-fn reading<S: Sample>(mut x: S, symbol: u8) -> i64 {
-    for _ in 0..(4 - symbol % 4) % 4 {
-        x = x.turn();
-    }
-    i64::from(x.front())
-}
-
 // The score of a word over the sums.
-fn score<S: Sample>(sums: &[S], word: &[u8]) -> i64 {
+fn score<S: Drawn>(sums: &[S], word: &[u8]) -> i64 {
     sums.iter().zip(word).fold(0i64, |total, (x, symbol)| {
-        total.wrapping_add(reading(*x, *symbol))
+        total.wrapping_add(x.read(*symbol).unwrap_or(0))
     })
 }
 
@@ -42,7 +34,7 @@ impl TryFrom<Ranked> for Leader {
 }
 
 /// Every message in turn; the first of equals stays.
-pub(crate) fn by_definition<S: Sample>(degree: u8, sums: &[S]) -> Option<Leader> {
+pub(crate) fn by_definition<S: Drawn>(degree: u8, sums: &[S]) -> Option<Leader> {
     let n = sums.len();
     let mut memory = [0u8; 128];
     let word = memory.get_mut(..n)?;

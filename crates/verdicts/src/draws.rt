@@ -1,11 +1,18 @@
 //! Sums drawn at random, on which the search is compared with the definition.
+ghost use Rattle.std.specs.Prelude.{◌≡◌};
+ghost use Rattle.samples.specs.Meaning.{reads, asked};
+
 use crate::decided;
 use crate::definition::by_definition;
 use samples::{Complex, Phase, Sample};
 
-/// A kind of samples that is drawn from random bits.
+/// A kind of samples that is read by its symbols, and drawn from random bits.
 // stays: the transforms draw loud samples, each number from a word of its own; here they are small, so that scores are often equal
 pub(crate) trait Drawn: Sample {
+    /// The reading of a symbol as the kind itself has it, by none of the steps by which the search reads a sample.
+    fn read(self, symbol: u8) -> Option<i64>
+        ensures { result ≡ asked (reads (Self.Sample.means self)) symbol };
+
     /// The sample that a word of random bits gives.
     fn drawn(word: u32) -> Self;
 }
@@ -17,6 +24,10 @@ fn small(word: u32) -> i32 {
 }
 
 impl Drawn for Complex {
+    fn read(self, symbol: u8) -> Option<i64> {
+        Complex::reading(self, symbol)
+    }
+
     fn drawn(word: u32) -> Complex {
         Complex {
             re: small(word >> 8),
@@ -26,6 +37,10 @@ impl Drawn for Complex {
 }
 
 impl Drawn for Phase {
+    fn read(self, symbol: u8) -> Option<i64> {
+        Phase::reading(self, symbol)
+    }
+
     fn drawn(word: u32) -> Phase {
         Phase {
             at0: small(word >> 8),
