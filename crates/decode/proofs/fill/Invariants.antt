@@ -1,0 +1,6 @@
+-- No more bytes came than the buffer has.
+use Rattle.std.proofs.Common.{◌≤◌, length}
+use Rattle.decode.proofs.fill.Given as goal
+
+abbrev pub invariant-loop : goal.invariant-loop
+invariant-loop g l = l.filled ≤ length l.buffer
