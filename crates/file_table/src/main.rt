@@ -8,6 +8,7 @@ mod samples_of;
 use reception_file::{Refusal, Stored, check, pick, write};
 use samples::{Complex, Phase, Sample};
 use samples_of::{fill, put};
+use std::fmt::Display;
 use std::io;
 
 /// What a table is made of beside its samples: the names, and the file's degree and count.
@@ -36,11 +37,15 @@ fn say_check(rt: &HostRuntime, bytes: &[u8]) -> io::Result<()> {
     }
 }
 
-/// Ends a line with what writing answers.
-fn say_write(rt: &HostRuntime, answer: Result<usize, Refusal>) -> io::Result<()> {
+/// A line with what was to be written, and what writing answers.
+fn say_write(
+    rt: &HostRuntime,
+    asked: &impl Display,
+    answer: Result<usize, Refusal>,
+) -> io::Result<()> {
     match answer {
-        Ok(size) => println!(rt; ": {size} bytes"),
-        Err(e) => println!(rt; ": {e}"),
+        Ok(size) => println!(rt; "{asked}: {size} bytes"),
+        Err(e) => println!(rt; "{asked}: {e}"),
     }
 }
 
@@ -112,18 +117,36 @@ fn writing<S: Stored>(
         ..
     } = *case;
     let size = bytes.len() - 1;
-    print!(rt; "{name}, degree 4")?;
-    say_write(rt, write(4, count, samples, bytes))?;
-    print!(rt; "{name}, count 0")?;
-    say_write(rt, write(degree, 0, samples, bytes))?;
-    print!(rt; "{name}, count 17")?;
-    say_write(rt, write(degree, 17, samples, bytes))?;
-    print!(rt; "{name}, no samples")?;
-    say_write(rt, write(degree, count, &samples[..0], bytes))?;
-    print!(rt; "{name}, a byte too few")?;
-    say_write(rt, write(degree, count, samples, &mut bytes[..size - 1]))?;
-    print!(rt; "{name}, written")?;
-    say_write(rt, write(degree, count, samples, bytes))?;
+    say_write(
+        rt,
+        &format_args!("{name}, degree 4"),
+        write(4, count, samples, bytes),
+    )?;
+    say_write(
+        rt,
+        &format_args!("{name}, count 0"),
+        write(degree, 0, samples, bytes),
+    )?;
+    say_write(
+        rt,
+        &format_args!("{name}, count 17"),
+        write(degree, 17, samples, bytes),
+    )?;
+    say_write(
+        rt,
+        &format_args!("{name}, no samples"),
+        write(degree, count, &samples[..0], bytes),
+    )?;
+    say_write(
+        rt,
+        &format_args!("{name}, a byte too few"),
+        write(degree, count, samples, &mut bytes[..size - 1]),
+    )?;
+    say_write(
+        rt,
+        &format_args!("{name}, written"),
+        write(degree, count, samples, bytes),
+    )?;
     let behind = bytes[size];
     println!(rt; "{name}, the byte behind the file: {behind}")
 }
@@ -192,12 +215,18 @@ fn table<S: Stored + PartialEq, O: Stored + PartialEq, const N: usize>(
     damage(rt, name, bytes)?;
     picking(rt, case, &bytes[..N - 1], samples, memory, other)?;
     put(samples.first_mut(), 0, first);
-    print!(rt; "{name}, first part {first}")?;
-    say_write(rt, write(degree, count, samples, bytes))?;
+    say_write(
+        rt,
+        &format_args!("{name}, first part {first}"),
+        write(degree, count, samples, bytes),
+    )?;
     put(samples.first_mut(), 0, 0);
     put(samples.last_mut(), S::parts(), last);
-    print!(rt; "{name}, last part {last}")?;
-    say_write(rt, write(degree, count, samples, bytes))
+    say_write(
+        rt,
+        &format_args!("{name}, last part {last}"),
+        write(degree, count, samples, bytes),
+    )
 }
 
 const COMPLEX: Case = Case {

@@ -9,7 +9,7 @@ use kerdock::coding::encode;
 use kerdock::messages::add_messages;
 use kerdock::reading::read_back;
 use kerdock::refusals::Refusal;
-use std::fmt::Debug;
+use std::fmt::{Debug, Display};
 
 // What came of a run over many messages.
 #[derive(Clone, Copy, Default)]
@@ -92,32 +92,33 @@ fn report_book(rt: &HostRuntime) -> anyhow::Result<()> {
     Ok(())
 }
 
-// Ends a line with what is answered, after the words that name it, or with the refusal.
+// A line with what was asked, and what is answered after the words that name it, or the refusal.
 fn say<T: Debug + Drop>(
     rt: &HostRuntime,
+    asked: &impl Display,
     named: &str,
     answer: Result<T, Refusal>,
 ) -> anyhow::Result<()> {
     match answer {
-        Ok(told) => println!(rt; ": {named}{told:?}")?,
-        Err(refusal) => println!(rt; ": {refusal}")?,
+        Ok(told) => println!(rt; "{asked}: {named}{told:?}")?,
+        Err(refusal) => println!(rt; "{asked}: {refusal}")?,
     }
     Ok(())
 }
 
 fn report_word(rt: &HostRuntime, degree: u8, message: u32, word: &mut [u8]) -> anyhow::Result<()> {
-    print!(rt; "degree {degree}, message {message}")?;
-    say(rt, "", encode(degree, message, word).map(|()| word))
+    let asked = format_args!("degree {degree}, message {message}");
+    say(rt, &asked, "", encode(degree, message, word).map(|()| word))
 }
 
 fn report_reading(rt: &HostRuntime, degree: u8, list: &[u8]) -> anyhow::Result<()> {
-    print!(rt; "degree {degree}, {list:?}")?;
-    say(rt, "message ", read_back(degree, list))
+    let asked = format_args!("degree {degree}, {list:?}");
+    say(rt, &asked, "message ", read_back(degree, list))
 }
 
 fn report_sum(rt: &HostRuntime, degree: u8, first: u32, second: u32) -> anyhow::Result<()> {
-    print!(rt; "degree {degree}, message {first} plus {second}")?;
-    say(rt, "message ", add_messages(degree, first, second))
+    let asked = format_args!("degree {degree}, message {first} plus {second}");
+    say(rt, &asked, "message ", add_messages(degree, first, second))
 }
 
 fn main(rt: HostRuntime) -> anyhow::Result<()> {
