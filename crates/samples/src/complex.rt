@@ -28,6 +28,13 @@ impl Complex {
             _ => None,
         }
     }
+
+    /// The sample turned once, as `Sample::turn` does it.
+    pub fn turned(self) -> Complex
+        ensures { result ≡ complex_turned self }
+    {
+        self.turn()
+    }
 }
 
 #[tactic(auto, using(std::proofs::lemmas::Int::wraps))]

@@ -30,6 +30,13 @@ impl Phase {
             _ => None,
         }
     }
+
+    /// The sample turned once, as `Sample::turn` does it.
+    pub fn turned(self) -> Phase
+        ensures { result ≡ phase_turned self }
+    {
+        self.turn()
+    }
 }
 
 #[tactic(auto, using(std::proofs::lemmas::Int::wraps))]
