@@ -21,18 +21,20 @@ use Rattle.bay_calls.specs.Seen.{five, closes, notes, stands, seen, state, denie
 use Rattle.bay_rules.proofs.Settling.{Gathers, shut_denies}
 
 -- a call that a shut bay and a waiting bay deny is let in only where the bay gathers
-only_gathering : (f : Stage → Result (Unit {0}) Denial) → f Shut ≡ Err IsShut → ((v : Numbers) → f (Waiting v) ≡ Err VerdictOut) →
+pub only_gathering : (f : Stage → Result (Unit {0}) Denial) → f Shut ≡ Err IsShut → ((v : Numbers) → f (Waiting v) ≡ Err VerdictOut) →
     (s : Stage) (x : Unit {0}) → Ok x ≡ f s → s ≡ Gathering
 only_gathering f shut out Shut x e = let z : ◌≡◌ {A = ℕ} 0 1 = cc in absurd (omega arith)
 only_gathering f shut out Gathering x e = refl
 only_gathering f shut out (Waiting v) x e = let q = out v in let z : ◌≡◌ {A = ℕ} 0 1 = cc in absurd (omega arith)
 
--- such a bay has a state that gathers
+-- a bay that gathers has a state that gathers
+pub gathers_at : {S : Type 0} (m : Ghosts S) (r : Standing) (book : CodeBook) (xs : List S) → r.stage ≡ Gathering → Gathers (seen m r book xs)
+gathers_at m r book xs e = record { up = ap closes e; none = ap notes e }
+
+-- and so has one that lets such a call in
 pub gathers : {S : Type 0} (m : Ghosts S) (b : Bay S) (f : Stage → Result (Unit {0}) Denial) → f Shut ≡ Err IsShut →
     ((v : Numbers) → f (Waiting v) ≡ Err VerdictOut) → (x : Unit {0}) → Ok x ≡ f b.standing.stage → Gathers (state m b)
-gathers m b f shut out x e =
-    let at = only_gathering f shut out b.standing.stage x e in
-    record { up = ap closes at; none = ap notes at }
+gathers m b f shut out x e = gathers_at m b.standing b.book b.sums.now (only_gathering f shut out b.standing.stage x e)
 
 let_in : (t : Bool) (x : Unit {0}) → Ok x ≡ cond t (Ok tt) (Err Misfit) → t ≡ true
 let_in true x e = refl
